@@ -1,0 +1,6 @@
+mod Stages
+mod Ends
+mod Turns
+mod Trails
+mod Handing
+pub mod Exactness

@@ -1,0 +1,2 @@
+mod Breaks
+pub mod Judgement

@@ -1,0 +1,3 @@
+mod Numbering
+mod Laws
+mod Transfers

@@ -1,0 +1,4 @@
+pub mod Paths
+pub mod Counting
+pub mod ClosedSets
+pub mod Fronts
