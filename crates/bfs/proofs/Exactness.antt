@@ -118,6 +118,11 @@ module _ {N : Type 0} (m : Meaning N) (b b′ : Buffers N) where
   refused-rows f q (rows-short e x) = x .overfilled .more
   refused-rows f q (places-short e x) = let o = too-few-places f e in let z : _≡_ {A = ℕ} 0 1 = cc in absurd (omega arith)
 
+  refused-places : (f : Fault) → f ≡ TooFewPlaces → Refused m b b′ f
+      → (d n : ℕ) × (R : ℕ → N) × Nearest m d × (length (b .plan) < d) × Count m R n × (n ≤ capacity (b .rows))
+  refused-places f q (rows-short e x) = let o = too-few-rows f e in let z : _≡_ {A = ℕ} 0 1 = cc in absurd (omega arith)
+  refused-places f q (places-short e x) = (x .d, x .used, _, x .nearest, x .over, x .filled .count, x .filled .room)
+
   at-answer : (r s : Result Outcome Fault) → r ≡ s → Answered m b b′ r → Answered m b b′ s
   at-answer r s q x = subst (λ (z : Result Outcome Fault). Answered m b b′ z) q x
 
@@ -129,6 +134,10 @@ module _ {N : Type 0} (m : Meaning N) (b b′ : Buffers N) where
     then-none = then-none r x;
     rows-then = λ q. refused-rows TooFewRows refl (at-answer r (Err TooFewRows) q x);
     then-rows = λ o. more-rows m b b′ b′ r o x;
+    places-then = λ q. refused-places TooFewPlaces refl (at-answer r (Err TooFewPlaces) q x);
+    then-places = λ d n R o l c h.
+        decides m b b′ R n c d o r x
+        ∙ ap₂ (λ (u v : Bool). decided u v d n) (le-leb n (capacity (b .rows)) h) (lt-leb d (length (b .plan)) l);
     plan-leads = λ d used q.
         let y : Planned m b b′ d used = at-answer r (Ok (Plan (d, used))) q x in
         (length-take-le d (b′ .plan) (omega (arith, y .fits, y .plan-past .long)), y .leads);

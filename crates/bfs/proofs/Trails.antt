@@ -38,10 +38,10 @@ module _ {N : Type 0} (m : Meaning N) (R : ℕ → N) (L : ℕ → Link) (used :
   not-first (suc row) h l = omega arith
 
   -- tie each row to one nearer
-  table-tied : Tied L used
-  table-tied = record {
-    row = λ i h l. omega (arith, t .behind i (not-first i h l) h);
-    nearer = λ i h l. t .nearer i (not-first i h l) h;
+  table-tied : (row : ℕ) → row < used → Tied L row
+  table-tied row g = record {
+    earlier = λ i h l. let k : i < used = omega arith in omega (arith, t .behind i (not-first i k l) k);
+    nearer = λ i h l. let k : i < used = omega arith in t .nearer i (not-first i k l) k;
   }
 
   -- and lead to each row
@@ -61,5 +61,5 @@ module _ {N : Type 0} (m : Meaning N) (R : ℕ → N) (L : ℕ → Link) (used :
     within = h;
     nearest = n;
     leads = leads-solves m (trail L (L row .distance) row) (R row) (trail-leads (L row .distance) row h refl) y;
-    tied = table-tied;
+    tied = table-tied row h;
   }

@@ -26,7 +26,7 @@ pub record Tables (N : Type 0) : Type 0 where
 abbrev pub tables : {N : Type 0} → List N → List Link → Tables N
 tables nodes links = record { nodes = nodes; links = links }
 
--- the rows that the two can hold
+-- the rows that a search may fill: the smallest of the two lengths and 65,536
 abbrev pub capacity : {N : Type 0} → Tables N → ℕ
 capacity t = min (min (length (t .nodes)) (length (t .links))) 65536
 

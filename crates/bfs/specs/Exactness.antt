@@ -35,6 +35,9 @@ module _ {N : Type 0} (m : Meaning N) where
     -- the rows are too few exactly when more nodes are counted than the capacity
     pub rows-then : r ≡ Err TooFewRows → More m (capacity (b .rows))
     pub then-rows : More m (capacity (b .rows)) → r ≡ Err TooFewRows
+    -- the places are too few exactly when the counted nodes fit the rows and the nearest target is farther than there are places
+    pub places-then : r ≡ Err TooFewPlaces → (d n : ℕ) × (R : ℕ → N) × Nearest m d × (length (b .plan) < d) × Count m R n × (n ≤ capacity (b .rows))
+    pub then-places : (d n : ℕ) (R : ℕ → N) → Nearest m d → length (b .plan) < d → Count m R n → n ≤ capacity (b .rows) → r ≡ Err TooFewPlaces
     -- a plan shown leads to a target, and every list of moves that does has at least as many
     pub plan-leads : (d used : ℕ) → r ≡ Ok (Plan (d, used)) → (length (take d (b′ .plan)) ≡ d) × (solves m (take d (b′ .plan)) ≡ true)
     pub plan-least : (d used : ℕ) → r ≡ Ok (Plan (d, used)) → (ks : List ℕ) → solves m ks ≡ true → d ≤ length ks

@@ -73,10 +73,10 @@ pub record Turned {N : Type 0} (m : Meaning N) (t t′ : NodeTable N) (last row 
   pub made : r ≡ true → At m t last row k → At m t′ last row′ k′
   pub full : r ≡ false → At m t last row k → Overfull m t′
 
--- every row but those at distance 0 is tied to a row one nearer
-pub record Tied (L : ℕ → Link) (used : ℕ) : Type 0 where
-  pub row : (i : ℕ) → i < used → 0 < L i .distance → L i .row < used
-  pub nearer : (i : ℕ) → i < used → 0 < L i .distance → L (L i .row) .distance + 1 ≡ L i .distance
+-- the rows up to a row, but those at distance 0, are tied to an earlier row one nearer
+pub record Tied (L : ℕ → Link) (row : ℕ) : Type 0 where
+  pub earlier : (i : ℕ) → i ≤ row → 0 < L i .distance → L i .row ≤ row
+  pub nearer : (i : ℕ) → i ≤ row → 0 < L i .distance → L (L i .row) .distance + 1 ≡ L i .distance
 
 -- the last d moves on the way to a row
 abbrev pub trail : (ℕ → Link) → ℕ → ℕ → List ℕ
@@ -93,7 +93,7 @@ pub record Reached {N : Type 0} (m : Meaning N) (L : ℕ → Link) (used row : �
   pub within : row < used
   pub nearest : Nearest m (L row .distance)
   pub leads : solves m (trail L (L row .distance) row) ≡ true
-  pub tied : Tied L used
+  pub tied : Tied L row
 
 -- how an exploration ends
 abbrev pub Explored-so : {N : Type 0} (m : Meaning N) (t : NodeTable N) → Explored → Type 0

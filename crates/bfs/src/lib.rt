@@ -25,7 +25,12 @@ pub enum Outcome {
     NoPlan(usize),
 }
 
-// A shortest list of moves from the space's start to a target, written into the plan slice. The tables then hold the nodes counted.
+// Finds a shortest list of moves from the space's start to a target.
+//
+// The tables get the nodes that are no farther than the nearest target, or all reachable ones where there is no reachable target, in
+// rows by rising distance. The answer is the plan's length, with its moves in the first places of the plan slice, and the rows used;
+// or no plan, and the rows used, which are then a closed set. It is refused where the nodes are more than the rows (the smaller
+// table's length, at most MAX_ROWS) or the plan is longer than its slice. What is not filled stays as it was.
 pub fn find_plan<S: Space>(
     space: &S,
     nodes: &mut [S::Node],
@@ -43,7 +48,7 @@ pub fn find_plan<S: Space>(
             if plan.len() < length {
                 return Err(Fault::TooFewPlaces);
             }
-            read_back(links, row, used, plan);
+            read_back(links, row, plan);
             Ok(Outcome::Plan((length, used)))
         }
     }

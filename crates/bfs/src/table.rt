@@ -87,7 +87,7 @@ impl<'a, N: Copy> NodeTable<'a, N> {
         holds(space, &self.rows[0..used], node)
     }
 
-    // The next node of a row by a move.
+    // The next node of a row by a move. A method that lends the rows, as `has` and `target_from` are, leaves the table as it is.
     fn next_of<S: Space<Node = N>>(&self, space: &S, row: usize, by: u16) -> Option<N>
         requires { ⌜ row < length (now (now self .rows)) ⌝ }
         ensures { λ r. ⌜ r ≡ S·Space .meaning (now (space .entry)) .next (nodeAt (S·Space .meaning (now (space .entry))) (now (now (self .entry) .rows)) row) by ⌝ }
@@ -160,7 +160,7 @@ impl<'a, N: Copy> NodeTable<'a, N> {
     // The first of the rows used, from first on, whose node is a target.
     fn target_from<S: Space<Node = N>>(&self, space: &S, first: usize) -> Option<usize>
         requires { ⌜ (first ≤ now self .used) × (now self .used ≤ length (now (now self .rows))) ⌝ }
-        ensures found { λ r. ⌜ ((i : ℕ) → r ≡ Some i → (first ≤ i) × (i < now (self .entry) .used) × (S·Space .meaning (now (space .entry)) .target (nodeAt (S·Space .meaning (now (space .entry))) (now (now (self .entry) .rows)) i) ≡ true)) ⌝ }
+        ensures found { λ r. ⌜ ((i : ℕ) → r ≡ Some i → (first ≤ i) × (i < now (self .entry) .used) × (S·Space .meaning (now (space .entry)) .target (nodeAt (S·Space .meaning (now (space .entry))) (now (now (self .entry) .rows)) i) ≡ true) × ((h : ℕ) → first ≤ h → h < i → S·Space .meaning (now (space .entry)) .target (nodeAt (S·Space .meaning (now (space .entry))) (now (now (self .entry) .rows)) h) ≡ false)) ⌝ }
         ensures missed { λ r. ⌜ (r ≡ None → (i : ℕ) → first ≤ i → i < now (self .entry) .used → S·Space .meaning (now (space .entry)) .target (nodeAt (S·Space .meaning (now (space .entry))) (now (now (self .entry) .rows)) i) ≡ false) ⌝ }
     {
         let used = self.used;
@@ -207,7 +207,7 @@ fn next_node<S: Space>(space: &S, rows: &[S::Node], row: usize, by: u16) -> Opti
 // The first of the rows from first to used whose node is a target.
 fn first_target<S: Space>(space: &S, rows: &[S::Node], first: usize, used: usize) -> Option<usize>
     requires { ⌜ (first ≤ used) × (used ≤ length (now rows)) ⌝ }
-    ensures found { λ r. ⌜ ((i : ℕ) → r ≡ Some i → (first ≤ i) × (i < used) × (S·Space .meaning (now (space .entry)) .target (nodeAt (S·Space .meaning (now (space .entry))) (now (rows .entry)) i) ≡ true)) ⌝ }
+    ensures found { λ r. ⌜ ((i : ℕ) → r ≡ Some i → (first ≤ i) × (i < used) × (S·Space .meaning (now (space .entry)) .target (nodeAt (S·Space .meaning (now (space .entry))) (now (rows .entry)) i) ≡ true) × ((h : ℕ) → first ≤ h → h < i → S·Space .meaning (now (space .entry)) .target (nodeAt (S·Space .meaning (now (space .entry))) (now (rows .entry)) h) ≡ false)) ⌝ }
     ensures missed { λ r. ⌜ (r ≡ None → (i : ℕ) → first ≤ i → i < used → S·Space .meaning (now (space .entry)) .target (nodeAt (S·Space .meaning (now (space .entry))) (now (rows .entry)) i) ≡ false) ⌝ }
 {
     for i in first..used {
@@ -219,7 +219,11 @@ fn first_target<S: Space>(space: &S, rows: &[S::Node], first: usize, used: usize
 }
 
 // Fills the tables from the start through the distance of the nearest target, and answers the rows used too.
-pub fn fill<S: Space>(space: &S, nodes: &mut [S::Node], links: &mut [Link]) -> (Explored, usize)
+pub(crate) fn fill<S: Space>(
+    space: &S,
+    nodes: &mut [S::Node],
+    links: &mut [Link],
+) -> (Explored, usize)
     ensures { λ r. ⌜ Tables-so (S·Space .meaning (now (space .entry))) (tables (now (nodes .entry)) (now (links .entry))) (tables (now (nodes .exit)) (now (links .exit))) (r .1) (r .0) ⌝ }
 {
     let capacity = nodes.len().min(links.len()).min(MAX_ROWS);
@@ -234,10 +238,10 @@ pub fn fill<S: Space>(space: &S, nodes: &mut [S::Node], links: &mut [Link]) -> (
 }
 
 // Writes the moves that lead to a row into the first places of the plan slice.
-pub fn read_back(links: &[Link], row: usize, used: usize, plan: &mut [u16])
-    requires within { ⌜ (row < used) × (used ≤ length (now links)) ⌝ }
+pub(crate) fn read_back(links: &[Link], row: usize, plan: &mut [u16])
+    requires within { ⌜ row < length (now links) ⌝ }
     requires fits { ⌜ linkAt (now links) row .distance ≤ length (now plan) ⌝ }
-    requires tied { ⌜ Tied (linkAt (now links)) used ⌝ }
+    requires tied { ⌜ Tied (linkAt (now links)) row ⌝ }
     ensures moves { λ _. ⌜ take (linkAt (now (links .entry)) row .distance) (now (plan .exit)) ≡ trail (linkAt (now (links .entry))) (linkAt (now (links .entry)) row .distance) row ⌝ }
     ensures past { λ _. ⌜ drop (linkAt (now (links .entry)) row .distance) (now (plan .exit)) ≡ drop (linkAt (now (links .entry)) row .distance) (now (plan .entry)) ⌝ }
 {

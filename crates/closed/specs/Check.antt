@@ -16,7 +16,7 @@ use Rattle.fault.specs.Refusals.{refusal, refused}
 use Rattle.space.specs.Meaning.{Meaning}
 use Rattle.space.specs.Rows.{nodeAt, Held, Kept, Closed}
 
--- the row and the move that a refusal names
+-- the row and the move that a refusal names; where it names no move, 0, which nothing below looks at
 abbrev pub rowOf : Place → ℕ
 rowOf (At i) = i
 rowOf (RowMove i k) = i

@@ -1,6 +1,9 @@
 -- Every refusal with its number, its layer and its place. Assumes nothing.
 use mathlib.Core.Path.{_≡_}
+use mathlib.Core.List.{List, _++_}
 use Prim.Native.Nat.{ℕ}
+use lib.Chars.{codes}
+use Rattle.std.specs.Written.{decimal}
 use Rattle.fault.specs.declared.Layer.{Layer}
 use Rattle.fault.specs.declared.Layer.the-variants.{Bytes, Lines, Sheet, Planner, Search, Checker}
 use Rattle.fault.specs.declared.Place.{Place}
@@ -39,6 +42,14 @@ refusal (NotNode p) = refused 18 Checker (At p)
 refusal NoStart = refused 19 Checker (At 0)
 refusal (TargetRow p) = refused 20 Checker (At p)
 refusal (NextMissing p k) = refused 21 Checker (RowMove p k)
+
+-- a place is written as its numbers, and a fault as its number and its place
+abbrev pub placeText : Place → List ℕ
+placeText (At p) = decimal p
+placeText (RowMove p k) = decimal p ++ (codes " " ++ decimal k)
+
+abbrev pub faultText : Fault → List ℕ
+faultText f = decimal (refusal f .number) ++ (codes " " ++ placeText (refusal f .place))
 
 -- two faults that say the same are the same
 abbrev pub Told-apart : Type 0

@@ -1,6 +1,7 @@
 // Everything that is refused: one enum, whose every case has a number, a layer and a place.
 ghost use mathlib.Core.Path.{_≡_};
-ghost use Rattle.fault.specs.Refusals.{refusal, Told-apart};
+ghost use Rattle.fault.specs.Refusals.{refusal, placeText, faultText, Told-apart};
+ghost use Rattle.std.specs.declared.option.Option.the-variants.{Some};
 use std::fmt;
 
 // The part of the planner that refuses.
@@ -28,7 +29,7 @@ pub enum Fault {
     TextLength,
     // the bytes are not lines, from this offset on
     NotLines(usize),
-    // too few lines or facts, or too many facts or actions
+    // too few lines or facts, or too many facts or actions, from this offset on
     SheetSize(usize),
     // the line at this offset has another number of words than the first
     WordCount(usize),
@@ -135,6 +136,8 @@ impl Fault {
 
 // A place is written as its numbers.
 pub impl fmt::Display for Place as PlaceDisplay {
+    ghost shown = { λ p. Some (placeText p) };
+
     fn fmt<W: fmt::Write>(&self, f: &mut fmt::Formatter<W>) -> fmt::Result {
         match *self {
             Place::At(at) => write!(f, "{at}"),
@@ -145,6 +148,8 @@ pub impl fmt::Display for Place as PlaceDisplay {
 
 // A fault is written as its number and its place.
 pub impl fmt::Display for Fault as FaultDisplay {
+    ghost shown = { λ f. Some (faultText f) };
+
     fn fmt<W: fmt::Write>(&self, f: &mut fmt::Formatter<W>) -> fmt::Result {
         let number = self.number();
         let place = self.place();

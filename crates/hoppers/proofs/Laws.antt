@@ -19,7 +19,7 @@ use Rattle.hoppers.specs.declared.moves.Move.the-variants.{Fill, Empty, Pour}
 use Rattle.hoppers.specs.declared.setting.Hoppers.{Hoppers}
 use Rattle.hoppers.specs.Levels.{listed, padded, level, put, none-above, within}
 use Rattle.hoppers.specs.Moves.{allowed, poured, made, moveOf}
-use Rattle.hoppers.specs.Setting.{Good-levels, after, from, hoppers}
+use Rattle.hoppers.specs.Setting.{Good-levels, after, from, hoppers, Within-capacities, Nodes-as-told}
 use Rattle.hoppers.proofs.Numbering.{numbered}
 
 -- ---- levels by number
@@ -48,23 +48,33 @@ at-none-above (x ∷ xs) [] f = refl
 at-none-above (x ∷ xs) (y ∷ ys) f =
     and-from (leb x y) (none-above xs ys) (le-leb x y (f 0 (omega arith))) (at-none-above xs ys (λ i h. f (suc i) (omega arith)))
 
--- one level is changed
+-- one level is changed, and no other
+pub put-same : (x : Levels) (i v : ℕ) → i < 8 → level (put x i v) i ≡ v
+put-same x i v h = padded-at (set (listed x) i v) i h ∙ getD-set-same (listed x) i v 0 h
+
+pub put-other : (x : Levels) (i v j : ℕ) → (j ≡ i → ⊥) → level (put x i v) j ≡ level x j
+put-other x i v j q = go (cases-lt j 8)
+  where
+    go : (j < 8) ⊎ (8 ≤ j) → level (put x i v) j ≡ level x j
+    go (inl h) = padded-at (set (listed x) i v) j h ∙ getD-set-other (listed x) i j v 0 q
+    go (inr h) = getD-past (listed (put x i v)) j 0 h ∙ sym (getD-past (listed x) j 0 h)
+
+-- which keeps the levels within the capacities
 module _ (x c : Levels) (w : within x c ≡ true) (i v : ℕ) (h : v ≤ level c i) where
   put-within : within (put x i v) c ≡ true
   put-within = at-none-above (listed (put x i v)) (listed c) (λ j l. below j l (cases-eq j i))
     where
       below : (j : ℕ) → j < 8 → (j ≡ i) ⊎ (j ≡ i → ⊥) → level (put x i v) j ≤ level c j
       below j l (inl q) =
-          let g : i < 8 = omega arith in
-          let e : level (put x i v) j ≡ v = padded-at (set (listed x) i v) j l ∙ ap (λ (n : ℕ). getD (set (listed x) i v) n 0) q ∙ getD-set-same (listed x) i v 0 g in
+          let e : level (put x i v) j ≡ v = ap (level (put x i v)) q ∙ put-same x i v (omega arith) in
           let f : level c j ≡ level c i = ap (level c) q in
           omega arith
       below j l (inr q) =
-          let e : level (put x i v) j ≡ level x j = padded-at (set (listed x) i v) j l ∙ getD-set-other (listed x) i j v 0 q in
+          let e = put-other x i v j q in
           omega (arith, none-above-at (listed x) (listed c) refl w j)
 
 -- ---- moves stay within the capacities
-allowed-gives : (P : Levels → Type 0) (t : Bool) (y b : Levels) → (t ≡ true → P y) → allowed t y ≡ Some b → P b
+pub allowed-gives : (P : Levels → Type 0) (t : Bool) (y b : Levels) → (t ≡ true → P y) → allowed t y ≡ Some b → P b
 allowed-gives P true y b f e = let q : y ≡ b = cc in subst P q (f refl)
 allowed-gives P false y b f e = let z : _≡_ {A = ℕ} 0 1 = cc in absurd (omega arith)
 
@@ -130,3 +140,23 @@ set-fine caps levels x c p q l e g =
     below : (i : ℕ) → (i < length caps) ⊎ (length caps ≤ i) → level x i ≤ level c i
     below i (inl h) = omega (arith, level-at i, capacity-at i, g i h .2)
     below i (inr h) = omega (arith, level-at i, getD-past levels i 0 (omega arith))
+
+-- ---- nodes are the levels within the capacities
+pub nodes-as-told : Nodes-as-told
+nodes-as-told caps levels i v h x (r, a) = (λ w. record { each = each w; rest = rest w }, back)
+  where
+    capacity-at : (j : ℕ) → level (h .capacities) j ≡ getD caps j 0
+    capacity-at j = ap (λ (y : Levels). level y j) (a .capacities) ∙ padded-level caps (r .few) j
+
+    each : within x (h .capacities) ≡ true → (j : ℕ) → j < length caps → level x j ≤ getD caps j 0
+    each w j l = omega (arith, capacity-at j, none-above-at (listed x) (listed (h .capacities)) refl w j)
+
+    rest : within x (h .capacities) ≡ true → (j : ℕ) → length caps ≤ j → level x j ≡ 0
+    rest w j l = omega (arith, capacity-at j, getD-past caps j 0 l, none-above-at (listed x) (listed (h .capacities)) refl w j)
+
+    back : Within-capacities caps x → within x (h .capacities) ≡ true
+    back n = at-none-above (listed x) (listed (h .capacities)) (λ j _. below j (cases-lt j (length caps)))
+      where
+        below : (j : ℕ) → (j < length caps) ⊎ (length caps ≤ j) → level x j ≤ level (h .capacities) j
+        below j (inl l) = omega (arith, capacity-at j, n .each j l)
+        below j (inr l) = omega (arith, n .rest j l)

@@ -1,3 +1,4 @@
 mod Numbering
 mod Laws
 mod Transfers
+mod Effects

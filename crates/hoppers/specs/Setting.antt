@@ -50,6 +50,7 @@ abbrev pub after : Levels → Levels → Option Move → Option Levels
 after caps x (Some k) = made caps x k
 after caps x None = None
 
+-- every move from what is not a node is forbidden
 abbrev pub from : Bool → Option Levels → Option Levels
 from true r = r
 from false r = None
@@ -63,3 +64,14 @@ hoppers s = record {
   target = λ x. within x (s .capacities) && eqb (level x (s .hopper)) (s .wanted);
   next = λ x k. from (within x (s .capacities)) (after (s .capacities) x (moveOf (s .count) k));
 }
+
+-- the levels of the hoppers that there are lie within their capacities, and the others are 0
+pub record Within-capacities (caps : List ℕ) (x : Levels) : Type 0 where
+  pub each : (i : ℕ) → i < length caps → level x i ≤ getD caps i 0
+  pub rest : (i : ℕ) → length caps ≤ i → level x i ≡ 0
+
+-- a node of hoppers that were set up is just such levels
+abbrev pub Nodes-as-told : Type 0
+Nodes-as-told =
+    (caps levels : List ℕ) (i v : ℕ) (h : Hoppers) (x : Levels) → Set-up caps levels i v (Ok h)
+    → (hoppers h .node x ≡ true → Within-capacities caps x) × (Within-capacities caps x → hoppers h .node x ≡ true)

@@ -4,6 +4,7 @@ ghost use mathlib.Core.Bool.{true, false};
 ghost use mathlib.Core.Path.{_≡_};
 ghost use Prim.Native.Nat.{ℕ, _<_, _≤_};
 ghost use Rattle.hoppers.specs.Levels.{level};
+ghost use Rattle.hoppers.specs.Moves.{moveOf};
 ghost use Rattle.hoppers.specs.Setting.{Set-up, Good-levels, hoppers};
 use crate::levels::Levels;
 use crate::moves::Move;
@@ -12,10 +13,10 @@ use fault::Fault;
 use space::Space;
 
 // The most hoppers.
-const MOST: usize = 8;
+const MAX_HOPPERS: usize = 8;
 
 // The largest capacity.
-const LARGEST: u8 = 200;
+const MAX_CAPACITY: u8 = 200;
 
 // Whether each capacity is from 1 to the largest, and each level within its hopper's capacity.
 fn in_range(capacities: &[u8], levels: &[u8]) -> bool
@@ -25,7 +26,7 @@ fn in_range(capacities: &[u8], levels: &[u8]) -> bool
 {
     for i in 0..capacities.len() {
         let capacity = capacities[i];
-        if capacity == 0 || capacity > LARGEST || levels[i] > capacity {
+        if capacity == 0 || capacity > MAX_CAPACITY || levels[i] > capacity {
             return false;
         }
     }
@@ -43,7 +44,7 @@ impl Hoppers {
         ensures { λ r. ⌜ Set-up (now (capacities .entry)) (now (levels .entry)) hopper wanted r ⌝ }
     {
         let count = capacities.len();
-        if count == 0 || count > MOST || levels.len() != count || hopper >= count {
+        if count == 0 || count > MAX_HOPPERS || levels.len() != count || hopper >= count {
             return Err(Fault::BadHoppers);
         }
         if !in_range(capacities, levels) {
@@ -58,11 +59,11 @@ impl Hoppers {
         })
     }
 
-    // The count of hoppers.
-    pub fn count(&self) -> u8
-        ensures { λ r. ⌜ r ≡ now (self .entry) .count ⌝ }
+    // The move of a number.
+    pub fn move_numbered(&self, number: u16) -> Option<Move>
+        ensures { λ r. ⌜ r ≡ moveOf (now (self .entry) .count) number ⌝ }
     {
-        self.count
+        Move::numbered(self.count, number)
     }
 }
 
@@ -92,7 +93,7 @@ pub impl Space for Hoppers as HoppersSpace {
         if !node.within(self.capacities) {
             return None;
         }
-        match Move::numbered(self.count, by) {
+        match self.move_numbered(by) {
             Some(step) => step.made(self.capacities, node),
             None => None,
         }

@@ -25,18 +25,6 @@ fn number_at(numbers: &[u8], i: usize) -> u8
 }
 
 impl Levels {
-    // All hoppers empty.
-    pub const EMPTY: Levels = Levels {
-        a: 0,
-        b: 0,
-        c: 0,
-        d: 0,
-        e: 0,
-        f: 0,
-        g: 0,
-        h: 0,
-    };
-
     // The first eight numbers of a slice, with 0 for those that it lacks.
     pub fn padded(numbers: &[u8]) -> Levels
         ensures { λ r. ⌜ r ≡ padded (now (numbers .entry)) ⌝ }

@@ -1,6 +1,7 @@
 // The moves of hoppers.
 ghost use mathlib.Core.Path.{_≡_};
-ghost use Rattle.hoppers.specs.Moves.{moveOf, made, pourable, transferred};
+ghost use Rattle.hoppers.specs.Moves.{moveOf, made, moveText, pourable, transferred};
+ghost use Rattle.std.specs.declared.option.Option.the-variants.{Some};
 use crate::levels::Levels;
 use std::fmt;
 
@@ -48,6 +49,8 @@ impl Move {
 
 // A move is written as a word and its hoppers.
 pub impl fmt::Display for Move as MoveDisplay {
+    ghost shown = { λ k. Some (moveText k) };
+
     fn fmt<W: fmt::Write>(&self, f: &mut fmt::Formatter<W>) -> fmt::Result {
         match *self {
             Move::Fill(i) => write!(f, "fill {i}"),

@@ -1,4 +1,4 @@
-// Hoppers as they are set up.
+// Hoppers as they are set up: the type and what always holds of it. What speaks of the type stands in hopper_space.
 ghost use lib.Dec.{leb};
 ghost use mathlib.Core.Bool.{true, _&&_};
 ghost use mathlib.Core.Path.{_≡_};

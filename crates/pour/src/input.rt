@@ -1,15 +1,14 @@
 // Reads a hopper problem from text.
+use bfs::MAX_ROWS;
 use std::alloc::AllocError;
 use std::alloc::Global;
 use std::alloc::Refused;
+use std::error::Error;
 use std::fmt;
 use std::str::SplitWhitespace;
 
 // The rows that a search may fill where the problem does not say.
 const USUAL_ROWS: usize = 2_048;
-
-// The most rows that a problem may ask for.
-const MOST_ROWS: usize = 65_536;
 
 // A hopper problem as it is written.
 #[derive(Drop)]
@@ -22,7 +21,7 @@ pub struct Problem {
 }
 
 // What was expected of which line, counted from 1, or that memory ran out.
-#[derive(Drop)]
+#[derive(Debug, Drop)]
 pub enum BadInput {
     Line(usize, &'static str),
     Missing(&'static str),
@@ -41,6 +40,8 @@ pub impl fmt::Display for BadInput as BadInputDisplay {
         }
     }
 }
+
+pub impl Error for BadInput as BadInputError {}
 
 pub impl From<AllocError> for BadInput as BadInputFromAlloc {
     fn from(_error: AllocError) -> BadInput {
@@ -80,38 +81,18 @@ impl Draft {
         let mut words = line.split_whitespace();
         match words.next() {
             None => Ok(()),
-            Some("capacities") => self.take_capacities(heap, number, words),
-            Some("levels") => self.take_levels(heap, number, words),
+            Some("capacities") => take_numbers(
+                &mut self.capacities,
+                heap,
+                number,
+                words,
+                CAPACITIES,
+            ),
+            Some("levels") => take_numbers(&mut self.levels, heap, number, words, LEVELS),
             Some("want") => self.take_want(number, words),
             Some("rows") => self.take_rows(number, words),
             Some(_) => Err(BadInput::Line(number, ANY)),
         }
-    }
-
-    fn take_capacities(
-        &mut self,
-        heap: Global,
-        number: usize,
-        words: SplitWhitespace<'_>,
-    ) -> Result<(), BadInput> {
-        if self.capacities.is_some() {
-            return Err(BadInput::Line(number, CAPACITIES));
-        }
-        self.capacities = Some(numbers(heap, words, number, CAPACITIES)?);
-        Ok(())
-    }
-
-    fn take_levels(
-        &mut self,
-        heap: Global,
-        number: usize,
-        words: SplitWhitespace<'_>,
-    ) -> Result<(), BadInput> {
-        if self.levels.is_some() {
-            return Err(BadInput::Line(number, LEVELS));
-        }
-        self.levels = Some(numbers(heap, words, number, LEVELS)?);
-        Ok(())
     }
 
     fn take_want(&mut self, number: usize, mut words: SplitWhitespace<'_>) -> Result<(), BadInput> {
@@ -138,7 +119,7 @@ impl Draft {
             return wrong;
         };
         match rows.parse::<usize>() {
-            Ok(rows) if rows <= MOST_ROWS => {
+            Ok(rows) if rows <= MAX_ROWS => {
                 self.rows = Some(rows);
                 Ok(())
             }
@@ -173,13 +154,17 @@ impl Draft {
     }
 }
 
-// The numbers that the words of a line are.
-fn numbers(
+// Takes in the numbers of a line, where there are none yet.
+fn take_numbers(
+    numbers: &mut Option<Vec<u8>>,
     heap: Global,
-    words: SplitWhitespace<'_>,
     line: usize,
+    words: SplitWhitespace<'_>,
     expected: &'static str,
-) -> Result<Vec<u8>, BadInput> {
+) -> Result<(), BadInput> {
+    if numbers.is_some() {
+        return Err(BadInput::Line(line, expected));
+    }
     let mut all = Vec::new(heap);
     for word in words {
         let Ok(n) = word.parse::<u8>() else {
@@ -187,11 +172,12 @@ fn numbers(
         };
         all.push(n)?;
     }
-    Ok(all)
+    *numbers = Some(all);
+    Ok(())
 }
 
 // The problem that a text holds, or what was expected of its first wrong line.
-pub fn read(heap: Global, text: &str) -> Result<Problem, BadInput> {
+pub(crate) fn read(heap: Global, text: &str) -> Result<Problem, BadInput> {
     let mut draft = Draft {
         capacities: None,
         levels: None,
@@ -202,4 +188,64 @@ pub fn read(heap: Global, text: &str) -> Result<Problem, BadInput> {
         draft.take(heap, i.saturating_add(1), line)?;
     }
     draft.finish()
+}
+
+#[cfg(test)]
+mod tests {
+    use super::*;
+    use std::test::*;
+
+    // The line that a text is refused for, or none where it is read or a line is lacking.
+    fn wrong_line(heap: Global, text: &str) -> Option<usize> {
+        let Err(bad) = read(heap, text) else {
+            return None;
+        };
+        match bad {
+            BadInput::Line(line, _) => Some(line),
+            _ => None,
+        }
+    }
+
+    #[test]
+    fn a_whole_problem_is_read(rt: LibcRuntime) -> Result<(), Fail> {
+        let Ok(problem) = read(
+            rt.alloc(),
+            "want 4 1\n\nrows 13\nlevels 0 2\ncapacities 3 5\n",
+        ) else {
+            return Err(Fail::new("not read"));
+        };
+        check_eq(problem.rows, 13)?;
+        check_eq(problem.hopper, 1)?;
+        check_eq(problem.wanted, 4)?;
+        check_eq(problem.capacities.get(1).copied(), Some(5))?;
+        check_eq(problem.levels.get(1).copied(), Some(2))?;
+        check_eq(problem.levels.len(), 2)
+    }
+
+    #[test]
+    fn rows_are_2048_where_none_are_asked_for(rt: LibcRuntime) -> Result<(), Fail> {
+        let Ok(problem) = read(rt.alloc(), "capacities 3\nlevels 0\nwant 4 0") else {
+            return Err(Fail::new("not read"));
+        };
+        check_eq(problem.rows, 2_048)
+    }
+
+    #[test]
+    fn wrong_lines_are_named(rt: LibcRuntime) -> Result<(), Fail> {
+        let heap = rt.alloc();
+        let cases = [
+            ("capacities 3 256", Some(1)),
+            ("levels 0\nlevels 0", Some(2)),
+            ("want 4", Some(1)),
+            ("want 4 1 2", Some(1)),
+            ("rows 65536\nrows 1", Some(2)),
+            ("rows 65537", Some(1)),
+            ("\nlevel 0", Some(2)),
+            ("levels 0\nwant 0 0", None),
+        ];
+        for (text, line) in cases {
+            check_eq(wrong_line(heap, text), line).note(text)?;
+        }
+        Ok(())
+    }
 }

@@ -9,10 +9,8 @@ use fault::FaultDisplay;
 use hoppers::Hoppers;
 use hoppers::HoppersSpace;
 use hoppers::Levels;
-use hoppers::Move;
 use hoppers::MoveDisplay;
-use input::BadInput;
-use input::BadInputDisplay;
+use input::BadInputError;
 use input::Problem;
 use input::read;
 use std::error::AnyError;
@@ -34,7 +32,7 @@ fn solve(rt: &LibcRuntime, problem: Problem) -> Result<(), AnyError> {
 
 fn search_and_print(rt: &LibcRuntime, hoppers: &Hoppers, rows: usize) -> Result<(), AnyError> {
     let heap = rt.alloc();
-    let mut nodes = vec![in heap; Levels::EMPTY; rows]?;
+    let mut nodes = vec![in heap; Levels::padded(&[]); rows]?;
     let mut links = vec![in heap; Link::ORIGIN; rows]?;
     let mut plan = vec![in heap; 0u16; rows]?;
     match find_plan(
@@ -62,9 +60,10 @@ fn print_moves(
     length: usize,
 ) -> Result<(), AnyError> {
     for number in plan.iter().take(length) {
-        if let Some(step) = Move::numbered(hoppers.count(), *number) {
-            println!(rt, "{step}")?;
-        }
+        let Some(step) = hoppers.move_numbered(*number) else {
+            return Err("the plan holds a number that is no move".into());
+        };
+        println!(rt, "{step}")?;
     }
     Ok(())
 }
@@ -76,15 +75,10 @@ fn print_refusal(rt: &LibcRuntime, fault: Fault) -> Result<(), AnyError> {
 
 fn run(rt: &LibcRuntime) -> Result<(), AnyError> {
     let text = io::read_to_string(rt.alloc(), rt.stdin())?;
-    match read(rt.alloc(), text.as_str()) {
-        Ok(problem) => solve(rt, problem),
-        Err(bad) => {
-            eprintln!(rt, "pour: {bad}")?;
-            Err("the problem was not understood".into())
-        }
-    }
+    let problem = read(rt.alloc(), text.as_str())?;
+    solve(rt, problem)
 }
 
 fn main(rt: LibcRuntime) -> Result<(), AnyError> {
-    run(&rt)
+    rt.report(run(&rt))
 }
