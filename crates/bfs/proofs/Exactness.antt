@@ -35,12 +35,12 @@ too-few-places f e = told-apart f TooFewPlaces e
 
 module _ {N : Type 0} (m : Meaning N) where
   -- there is one nearest distance
-  nearest-one : (d e : ℕ) → Nearest m d → Nearest m e → d ≡ e
+  pub nearest-one : (d e : ℕ) → Nearest m d → Nearest m e → d ≡ e
   nearest-one d e n o =
       omega (arith, n .least (o .some .0) (o .some .2), o .least (n .some .0) (n .some .2), n .some .1, o .some .1)
 
   -- where no target is reachable, none is nearest
-  never-near : {X : Type 0} (d : ℕ) → Hopeless m → Nearest m d → X
+  pub never-near : {X : Type 0} (d : ℕ) → Hopeless m → Nearest m d → X
   never-near d h n = absurd (h (n .some .0) (n .some .2))
 
   -- tables cannot be both filled and overfilled

@@ -9,7 +9,7 @@ use lib.ListN.{length, length-append}
 use Rattle.std.specs.declared.option.Option.{Option}
 use Rattle.std.specs.declared.option.Option.the-variants.{Some, None}
 use Rattle.space.specs.Meaning.{Meaning}
-use Rattle.space.specs.Paths.{onward, targeted, solves, Leads, Distance}
+use Rattle.space.specs.Paths.{onward, targeted, solves, Leads, Distance, Counted-as-told}
 
 -- n moves lead to a, by the last move
 abbrev pub Steps : {N : Type 0} → Meaning N → ℕ → N → Type 0
@@ -72,3 +72,12 @@ module _ {N : Type 0} (m : Meaning N) where
       go : (r : Option N) → onward m (Some (m .start)) ks ≡ r → targeted m r ≡ true → (a : N) × Leads m ks a × (m .target a ≡ true)
       go None e t = let z : _≡_ {A = ℕ} 0 1 = cc in absurd (omega arith)
       go (Some a) e t = (a, e, t)
+
+  -- the two cases of what is counted
+  pub counted-as-told : (a : N) → Counted-as-told m a
+  counted-as-told a = record {
+    counted-near = λ d n c. (c .by, omega (arith, c .short (n .some .0) (n .some .2), n .some .1), c .leads);
+    near-counted = λ d ks n l e. record { by = ks; leads = e; short = λ js s. omega (arith, n .least js s) };
+    counted-reached = λ c. (c .by, c .leads);
+    reached-counted = λ ks h e. record { by = ks; leads = e; short = λ js s. absurd (h js s) };
+  }

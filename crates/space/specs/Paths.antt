@@ -51,3 +51,11 @@ module _ {N : Type 0} (m : Meaning N) where
     pub by : List ℕ
     pub leads : Leads by a
     pub short : Unmet (length by)
+
+  -- The counted nodes are those that a list of D moves or fewer leads to, where D is the least distance of a target; and all reachable
+  -- ones where no target is reachable.
+  pub record Counted-as-told (a : N) : Type 0 where
+    pub counted-near : (d : ℕ) → Nearest d → Counted a → (ks : List ℕ) × (length ks ≤ d) × Leads ks a
+    pub near-counted : (d : ℕ) (ks : List ℕ) → Nearest d → length ks ≤ d → Leads ks a → Counted a
+    pub counted-reached : Counted a → (ks : List ℕ) × Leads ks a
+    pub reached-counted : (ks : List ℕ) → Hopeless → Leads ks a → Counted a

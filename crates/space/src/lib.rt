@@ -3,6 +3,7 @@ ghost use mathlib.Core.Bool.{Bool, true, false};
 ghost use mathlib.Core.Path.{_≡_};
 ghost use lib.ListN.{length};
 ghost use Rattle.space.specs.Meaning.{Meaning, Lawful};
+ghost use Rattle.space.specs.Paths.{Counted-as-told};
 ghost use Rattle.space.specs.Rows.{nodeAt, Held};
 
 // A space is asked six things, and asking alters nothing: each answer is the meaning's, however often asked.
@@ -51,3 +52,8 @@ pub fn holds<S: Space>(space: &S, rows: &[S::Node], node: S::Node) -> bool
     }
     false
 }
+
+// The counted nodes are, in every space, those no farther than the nearest target, or all reachable ones where no target is reachable.
+pub fn counting_is_as_told<N>()
+    ensures { λ _. ⌜ ((m : Meaning N) (a : N) → Counted-as-told m a) ⌝ }
+{}
