@@ -2,19 +2,19 @@
 use Prim.Native.Nat.{ℕ, _≤_}
 use mathlib.Core.Bool.{true}
 use mathlib.Core.Path.{_≡_}
-use mathlib.Core.List.{List}
-use lib.ListN.{length, take}
+use mathlib.Core.List.{List, _++_}
+use lib.ListN.{length, take, drop}
 use Rattle.std.specs.declared.result.Result.{Result}
 use Rattle.std.specs.declared.result.Result.the-variants.{Ok, Err}
 use Rattle.fault.specs.declared.Fault.{Fault}
 use Rattle.bfs.specs.declared.Outcome.{Outcome}
 use Rattle.bfs.specs.declared.Outcome.the-variants.{Plan, NoPlan}
-use Rattle.bfs.specs.Answers.{Buffers}
+use Rattle.bfs.specs.Answers.{Buffers, Answered}
 use Rattle.strips.specs.Tasks.{Task, fine}
-use Rattle.strips.specs.Duality.{isPlan}
+use Rattle.strips.specs.Duality.{isPlan, spaceIn, in-order}
 use Rattle.directions.specs.Planning.{Answered-in, Checked-in}
 
--- neither is a refusal only if both say none, or both show plans of equal length
+-- if neither is a refusal, both say none or both show plans of equal length
 abbrev pub Agree : Result Outcome Fault → Result Outcome Fault → Type 0
 Agree (Ok (Plan p)) (Ok (Plan q)) = p .0 ≡ q .0
 Agree (Ok (Plan p)) (Ok (NoPlan v)) = ⊥
@@ -46,3 +46,20 @@ Plans-told =
 abbrev pub Accepted-none : Type 0
 Accepted-none =
     (h : Task) → fine h ≡ true → (d : ℕ) (rows : List ℕ) → Checked-in h d rows (Ok tt) → (ks : List ℕ) → isPlan h ks ≡ true → ⊥
+
+-- the buffers with a plan shown turned back into the direction's order
+abbrev pub turned-back : ℕ → Result Outcome Fault → Buffers ℕ → Buffers ℕ
+turned-back d (Ok (Plan p)) b = record { rows = b .rows; plan = in-order d (take (p .0) (b .plan)) ++ drop (p .0) (b .plan) }
+turned-back d (Ok (NoPlan used)) b = b
+turned-back d (Err f) b = b
+
+-- Every answer in a direction is the search's in that direction's space, once a plan shown is turned back; and where none is said, the
+-- check in that direction accepts the rows used. So all that is exact of the search's answers is exact of these.
+pub record As-searched (h : Task) (d : ℕ) (b b′ : Buffers ℕ) (r : Result Outcome Fault) : Type 0 where
+  pub searched : d ≤ 3 → Answered (spaceIn h d) b (turned-back d r b′) r
+  pub accepted : (used : ℕ) (rows : List ℕ) (s : Result (Unit {0}) Fault) → r ≡ Ok (NoPlan used) → rows ≡ take used (b′ .rows .nodes)
+      → Checked-in h d rows s → s ≡ Ok tt
+
+abbrev pub Always-as-searched : Type 0
+Always-as-searched =
+    (h : Task) → fine h ≡ true → (d : ℕ) (b b′ : Buffers ℕ) (r : Result Outcome Fault) → Answered-in h d b b′ r → As-searched h d b b′ r

@@ -6,7 +6,7 @@ ghost use mathlib.Core.Path.{_≡_};
 ghost use Prim.Native.Nat.{_≤_};
 ghost use Rattle.bfs.specs.Answers.{Answered, buffers};
 ghost use Rattle.closed.specs.Check.{Checked};
-ghost use Rattle.directions.specs.Agreement.{Accepted-none, Directions-agree, Plans-told};
+ghost use Rattle.directions.specs.Agreement.{Accepted-none, Always-as-searched, Directions-agree, Plans-told};
 ghost use Rattle.directions.specs.Planning.{Answered-in, Checked-in};
 ghost use Rattle.space.specs.Paths.{solves};
 ghost use Rattle.strips.specs.Duality.{isPlan, spaceIn};
@@ -141,4 +141,10 @@ pub fn directions_agree()
 pub fn answers_tell_of_the_task()
     ensures told { λ _. ⌜ Plans-told ⌝ }
     ensures accepted { λ _. ⌜ Accepted-none ⌝ }
+{}
+
+// An answer in a direction is the search's in that direction's space, with a plan shown in the task's order; and the check in a direction
+// accepts the rows used where planning in it says none.
+pub fn answers_are_as_searched()
+    ensures { λ _. ⌜ Always-as-searched ⌝ }
 {}

@@ -1,4 +1,5 @@
-// Hoppers as they are set up: the type and what always holds of it. What speaks of the type stands in hopper_space.
+// Hoppers as they are set up: the type and what always holds of it. A definition that names a type cannot be cited in the file of the
+// type, so the functions on hoppers stand in hopper_space.
 ghost use lib.Dec.{leb};
 ghost use mathlib.Core.Bool.{true, _&&_};
 ghost use mathlib.Core.Path.{_≡_};

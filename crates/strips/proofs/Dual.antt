@@ -15,11 +15,12 @@ use Rattle.space.specs.Paths.{onward, targeted, solves, Nearest, Hopeless}
 use Rattle.strips.specs.Sets.{has, without, within, complement, full}
 use Rattle.strips.specs.Actions.{allowed, progress, consistent, regress, dual-action}
 use Rattle.strips.specs.Tasks.{Task, idle, action-at, of-sets, given, fine, fine-action, fine-actions, forward, backward, mirror, turned, only}
-use Rattle.strips.specs.Duality.{dual, isPlan, spaceIn, Backwards, Duality, Involution, Dual-fine, Mirrored, Ordered, in-order, Same-length}
+use Rattle.strips.specs.Duality.{dual, carries, isPlan, spaceIn, Forwards, Backwards, Duality, Involution, Dual-fine, Mirrored, Ordered, in-order, Same-length}
 use Rattle.strips.specs.declared.action.Action.{Action}
 use Rattle.strips.proofs.Words.{within-at, within-of, digits, equal, has-and, has-none, has-past}
-use Rattle.strips.proofs.Laws.{fine-at, forward-to, backward-to, forward-lawful, backward-lawful, complement-below, without-lt}
-use Rattle.strips.proofs.Regression.{both, turn, run, sets-run, consistent-at, consistent-of}
+use Rattle.space.proofs.Least.{nearest-exists}
+use Rattle.strips.proofs.Laws.{fine-at, forward-to, backward-to, forward-lawful, backward-lawful, mirror-lawful, complement-below, without-lt}
+use Rattle.strips.proofs.Regression.{both, turn, fwd, sets-run, consistent-at, consistent-of}
 
 pub complement-twice : (n w : ℕ) → w < 2 ^ n → complement n (complement n w) ≡ w
 complement-twice n w h = equal _ _ (λ i. let p : n ≤ i → has w i ≡ false = has-past n w i h in simp digits (grind (arith, tells)))
@@ -58,13 +59,21 @@ module _ (n : ℕ) (m : Meaning ℕ) (l : Lawful m) (sets : (w : ℕ) → m .nod
       ∙ mirror-targeted (onward m (Some (m .start)) ks) (onward-node (Some (m .start)) st ks)
 
 -- ---- plans forward and backward
+-- a list carries through as it runs
+carries-run : (h : Task) (s : ℕ) (ks : List ℕ) → carries h s ks ≡ fwd h s (h .goal) ks
+carries-run h s [] = refl
+carries-run h s (k ∷ ks) = ap (λ (b : Bool). (ltb k (length (h .actions)) && allowed (action-at h k) s) && b) (carries-run h (progress (action-at h k) s) ks)
+
+pub forwards : Forwards
+forwards h f ks =
+    let s : h .state < 2 ^ h .facts = grind (arith, tells) in
+    sets-run (h .facts) (h .state) (length (h .actions)) (λ w. within (h .goal) w) (λ w k. allowed (action-at h k) w) (λ w k. progress (action-at h k) w) (forward-to h f) (h .state) s ks
+    ∙ sym (carries-run h (h .state) ks)
+
 pub backwards : Backwards
 backwards h f ks =
-    let s : h .state < 2 ^ h .facts = grind (arith, tells) in
     let w : h .goal < 2 ^ h .facts = grind (arith, tells) in
-    sets-run (h .facts) (h .state) (length (h .actions)) (λ w. within (h .goal) w) (λ w k. allowed (action-at h k) w) (λ w k. progress (action-at h k) w) (forward-to h f) (h .state) s ks
-    ∙ ap (λ js. run (length (h .actions)) (λ w. within (h .goal) w) (λ w k. allowed (action-at h k) w) (λ w k. progress (action-at h k) w) (h .state) js) (sym (reverse-reverse ks))
-    ∙ sym (turn h (h .state) (h .goal) (reverse ks))
+    carries-run h (h .state) ks ∙ ap (fwd h (h .state) (h .goal)) (sym (reverse-reverse ks)) ∙ sym (turn h (h .state) (h .goal) (reverse ks))
     ∙ sym (sets-run (h .facts) (h .goal) (length (h .actions)) (λ w. within w (h .state)) (λ w k. consistent (action-at h k) w) (λ w k. regress (action-at h k) w) (backward-to h f) (h .goal) w (reverse ks))
 
 -- ---- the dual task
@@ -193,10 +202,23 @@ mirrored-forward h f =
 pub mirrored : Mirrored
 mirrored h f = (mirrored-backward h f, mirrored-forward h f)
 
+-- the dual of a task is a task
+dual-actions-fine : (n : ℕ) (ps : List Action) → fine-actions n ps ≡ true → fine-actions n (map dual-action ps) ≡ true
+dual-actions-fine n [] f = refl
+dual-actions-fine n (p ∷ ps) f = let g = dual-actions-fine n ps (grind arith) in grind arith
+
+pub dual-fine : Dual-fine
+dual-fine h f =
+    let s = complement-below (h .facts) (h .goal) in
+    let g = complement-below (h .facts) (h .state) in
+    let l : length (map dual-action (h .actions)) ≡ length (h .actions) = length-map (h .actions) dual-action in
+    let a : fine-actions (h .facts) (map dual-action (h .actions)) ≡ true = dual-actions-fine (h .facts) (h .actions) (grind arith) in
+    grind (arith, tells)
+
 pub duality : Duality
 duality h f ks =
     backwards h f ks ∙ sym (mirror-solves (h .facts) (backward h) (backward-lawful h f) (λ w. refl) (reverse ks))
-    ∙ ap (λ m. solves m (reverse ks)) (mirrored-backward h f)
+    ∙ ap (λ m. solves m (reverse ks)) (mirrored-backward h f) ∙ forwards (dual h) (dual-fine h f) (reverse ks)
 
 dual-dual-actions : (ps : List Action) → map dual-action (map dual-action ps) ≡ ps
 dual-dual-actions [] = refl
@@ -212,12 +234,12 @@ involution h f = λ i. record {
 
 -- what a direction finds, in the task's order, is a plan
 pub ordered : Ordered
-ordered h f zero ks = refl
+ordered h f zero ks = forwards h f ks
 ordered h f (suc zero) ks = sym (backwards h f (reverse ks) ∙ ap (solves (backward h)) (reverse-reverse ks))
 ordered h f (suc (suc zero)) ks =
     mirror-solves (h .facts) (backward h) (backward-lawful h f) (λ w. refl) ks
     ∙ sym (backwards h f (reverse ks) ∙ ap (solves (backward h)) (reverse-reverse ks))
-ordered h f (suc (suc (suc d))) ks = mirror-solves (h .facts) (forward h) (forward-lawful h f) (λ w. refl) ks
+ordered h f (suc (suc (suc d))) ks = mirror-solves (h .facts) (forward h) (forward-lawful h f) (λ w. refl) ks ∙ forwards h f ks
 
 -- an order taken twice is none
 pub order-order : (d : ℕ) (ks : List ℕ) → in-order d (in-order d ks) ≡ ks
@@ -241,29 +263,28 @@ agreement h f d e ks s = (
   ordered h f e (in-order e (in-order d ks)) ∙ ap (isPlan h) (order-order e (in-order d ks)) ∙ sym (ordered h f d ks) ∙ s,
 )
 
+-- every direction's space keeps the laws
+pub direction-lawful : (h : Task) → fine h ≡ true → (d : ℕ) → Lawful (spaceIn h d)
+direction-lawful h f zero = forward-lawful h f
+direction-lawful h f (suc zero) = backward-lawful h f
+direction-lawful h f (suc (suc zero)) = mirror-lawful (h .facts) (backward h) (backward-lawful h f)
+direction-lawful h f (suc (suc (suc d))) = mirror-lawful (h .facts) (forward h) (forward-lawful h f)
+
+-- a shortest length of one direction is that of any other
+nearest-same : (h : Task) → fine h ≡ true → (d e n : ℕ) → Nearest (spaceIn h d) n → Nearest (spaceIn h e) n
+nearest-same h f d e n s =
+    let a = agreement h f d e (s .some .0) (s .some .2) in
+    record {
+      some = (a .0, a .1 ∙ s .some .1, a .2);
+      least = λ ks p. let b = agreement h f e d ks p in let q = s .least (b .0) (b .2) in omega (arith, b .1);
+    }
+
 pub same-length : Same-length
-same-length h f d e = (
-  λ n s.
-      let a = agreement h f d e (s .some .0) (s .some .2) in
-      record {
-        some = (a .0, a .1 ∙ s .some .1, a .2);
-        least = λ ks p. let b = agreement h f e d ks p in let q = s .least (b .0) (b .2) in omega (arith, b .1);
-      },
-  λ no ks p. let b = agreement h f e d ks p in no (b .0) (b .2),
-)
-
--- the dual of a task is a task
-dual-actions-fine : (n : ℕ) (ps : List Action) → fine-actions n ps ≡ true → fine-actions n (map dual-action ps) ≡ true
-dual-actions-fine n [] f = refl
-dual-actions-fine n (p ∷ ps) f = let g = dual-actions-fine n ps (grind arith) in grind arith
-
-pub dual-fine : Dual-fine
-dual-fine h f =
-    let s = complement-below (h .facts) (h .goal) in
-    let g = complement-below (h .facts) (h .state) in
-    let l : length (map dual-action (h .actions)) ≡ length (h .actions) = length-map (h .actions) dual-action in
-    let a : fine-actions (h .facts) (map dual-action (h .actions)) ≡ true = dual-actions-fine (h .facts) (h .actions) (grind arith) in
-    grind (arith, tells)
+same-length h f d e = record {
+  both = λ ks s. let n = nearest-exists (spaceIn h d) (direction-lawful h f d) ks s in (n .0, n .1, nearest-same h f d e (n .0) (n .1));
+  same = nearest-same h f d e;
+  neither = λ no ks p. let b = agreement h f e d ks p in no (b .0) (b .2);
+}
 
 -- a plan, in a direction's order, leads to a target there
 pub plan-solves : (h : Task) → fine h ≡ true → (d : ℕ) (ks : List ℕ) → isPlan h ks ≡ true → solves (spaceIn h d) (in-order d ks) ≡ true

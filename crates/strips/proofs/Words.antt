@@ -219,11 +219,15 @@ few-below n w f =
     let e : bitAnd w (full n) ≡ w = equal _ _ (λ i. let p : n ≤ i → has w i ≡ false = f i in simp digits (grind (arith, tells))) in
     subst (λ (x : ℕ). x < 2 ^ n) (sym (and-mask w n) ∙ e) (mod-lt w (pow-pos n))
 
-few-exactly : (n w : ℕ) → Exactly (ltb w (2 ^ n)) ((i : ℕ) → n ≤ i → has w i ≡ false)
+pub few-exactly : (n w : ℕ) → Exactly (ltb w (2 ^ n)) ((i : ℕ) → n ≤ i → has w i ≡ false)
 few-exactly n w = record {
   then = λ h i l. has-past n w i (ltb-true w (2 ^ n) h) l;
   when = λ f. lt-ltb w (2 ^ n) (few-below n w f);
 }
+
+-- what a test says exactly, an equal one says
+pub exactly-same : (r s : Bool) (P : Type 0) → r ≡ s → Exactly s P → Exactly r P
+exactly-same r s P q x = subst (λ (b : Bool). Exactly b P) (sym q) x
 
 pub by-membership : By-membership
 by-membership = record {

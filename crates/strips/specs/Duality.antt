@@ -1,14 +1,15 @@
 -- Plans forward, backward and of the dual task. Assumes nothing.
 use Prim.Native.Nat.{ℕ, zero, suc}
-use mathlib.Core.Bool.{Bool, true}
+use mathlib.Core.Bool.{Bool, true, _&&_}
 use mathlib.Core.Path.{_≡_}
-use mathlib.Core.List.{List, map, reverse}
+use mathlib.Core.List.{List, [], _∷_, map, reverse}
+use lib.Dec.{ltb}
 use lib.ListN.{length}
 use Rattle.space.specs.Meaning.{Meaning}
 use Rattle.space.specs.Paths.{solves, Nearest, Hopeless}
-use Rattle.strips.specs.Sets.{complement}
-use Rattle.strips.specs.Actions.{dual-action}
-use Rattle.strips.specs.Tasks.{Task, fine, forward, backward, mirror}
+use Rattle.strips.specs.Sets.{complement, within}
+use Rattle.strips.specs.Actions.{allowed, progress, dual-action}
+use Rattle.strips.specs.Tasks.{Task, fine, action-at, forward, backward, mirror}
 
 -- the dual task has the same facts and the dual actions in the same order; its state is every fact outside the goal, and its goal every fact outside the state
 abbrev pub dual : Task → Task
@@ -19,9 +20,14 @@ dual h = record {
   goal = complement (h .facts) (h .state);
 }
 
+-- whether the actions of a list, each allowed in turn from s, lead to a state within which the goal lies
+abbrev pub carries : Task → ℕ → List ℕ → Bool
+carries h s [] = within (h .goal) s
+carries h s (k ∷ ks) = (ltb k (length (h .actions)) && allowed (action-at h k) s) && carries h (progress (action-at h k) s) ks
+
 -- a plan is a list of action numbers, each allowed in turn from the state, after which the goal lies within the state
 abbrev pub isPlan : Task → List ℕ → Bool
-isPlan h ks = solves (forward h) ks
+isPlan h ks = carries h (h .state) ks
 
 -- what each direction searches: 0 forward, 1 backward, 2 the mirror over backward, 3 the mirror over forward
 abbrev pub spaceIn : Task → ℕ → Meaning ℕ
@@ -36,6 +42,10 @@ in-order zero ks = ks
 in-order (suc zero) ks = reverse ks
 in-order (suc (suc zero)) ks = reverse ks
 in-order (suc (suc (suc d))) ks = ks
+
+-- a list is a plan exactly when it leads in the forward space from the state to a target
+abbrev pub Forwards : Type 0
+Forwards = (h : Task) → fine h ≡ true → (ks : List ℕ) → solves (forward h) ks ≡ isPlan h ks
 
 -- a list is a plan exactly when, read backwards, it leads in the backward space from the goal to a target
 abbrev pub Backwards : Type 0
@@ -63,9 +73,12 @@ Mirrored =
 abbrev pub Ordered : Type 0
 Ordered = (h : Task) → fine h ≡ true → (d : ℕ) (ks : List ℕ) → solves (spaceIn h d) ks ≡ isPlan h (in-order d ks)
 
--- of any two directions either neither has a list that reaches a target, or the shortest have the same length
+-- Of any two directions either neither has a list that reaches a target, or the shortest have the same length: where one has such a list,
+-- both have shortest ones of one length; a shortest length of one is that of the other; and where one has none, neither has.
+pub record One-length (h : Task) (d e : ℕ) : Type 0 where
+  pub both : (ks : List ℕ) → solves (spaceIn h d) ks ≡ true → (n : ℕ) × Nearest (spaceIn h d) n × Nearest (spaceIn h e) n
+  pub same : (n : ℕ) → Nearest (spaceIn h d) n → Nearest (spaceIn h e) n
+  pub neither : Hopeless (spaceIn h d) → Hopeless (spaceIn h e)
+
 abbrev pub Same-length : Type 0
-Same-length =
-    (h : Task) → fine h ≡ true → (d e : ℕ)
-    → ((n : ℕ) → Nearest (spaceIn h d) n → Nearest (spaceIn h e) n)
-    × (Hopeless (spaceIn h d) → Hopeless (spaceIn h e))
+Same-length = (h : Task) → fine h ≡ true → (d e : ℕ) → One-length h d e

@@ -1,7 +1,6 @@
 -- Tasks and their search spaces. Assumes nothing.
-use Prim.Native.Nat.{ℕ, _^_, _<_, _≤_}
+use Prim.Native.Nat.{ℕ, _^_}
 use mathlib.Core.Bool.{Bool, true, false, _&&_}
-use mathlib.Core.Path.{_≡_}
 use mathlib.Core.List.{List, [], _∷_}
 use lib.Dec.{leb, ltb}
 use lib.ListN.{length, getD}
@@ -52,7 +51,7 @@ of-sets n start count target may to = record {
   next = λ w k. given (ltb w (2 ^ n) && (ltb k count && may w k)) (to w k);
 }
 
--- the action of a number
+-- the action of a number; past the count the one that changes nothing, where no statement looks
 abbrev pub action-at : Task → ℕ → Action
 action-at h k = getD (h .actions) k idle
 

@@ -19,5 +19,5 @@ taskIn t = record { facts = t .facts; actions = take (t .count) (t .actions); st
 
 -- made exactly where it is a task
 abbrev pub Made : Task → Option Owned → Type 0
-Made h (Some t) = taskIn t ≡ h
+Made h (Some t) = (fine h ≡ true) × (taskIn t ≡ h)
 Made h None = fine h ≡ false

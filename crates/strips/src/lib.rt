@@ -1,5 +1,5 @@
 // Planning over facts: sets of facts as words, actions, tasks, and the spaces in which a plan is searched.
-ghost use Rattle.strips.specs.Duality.{Backwards, Dual-fine, Duality, Involution, Mirrored, Ordered, Same-length};
+ghost use Rattle.strips.specs.Duality.{Backwards, Dual-fine, Duality, Forwards, Involution, Mirrored, Ordered, Same-length};
 ghost use Rattle.strips.specs.Sets.{By-membership};
 
 mod action;
@@ -30,6 +30,11 @@ pub fn sets_go_by_membership()
     ensures { λ _. ⌜ By-membership ⌝ }
 {}
 
+// A list is a plan exactly when it leads in the forward space from the state to a target.
+pub fn plans_lead_forward()
+    ensures { λ _. ⌜ Forwards ⌝ }
+{}
+
 // A list is a plan exactly when, read backwards, it leads in the backward space from the goal to a target.
 pub fn plans_lead_backward_too()
     ensures { λ _. ⌜ Backwards ⌝ }
@@ -47,7 +52,8 @@ pub fn mirrors_mean_the_dual()
     ensures { λ _. ⌜ Mirrored ⌝ }
 {}
 
-// What any direction finds is, in the task's order, a plan; of two directions either neither finds one, or the shortest are equally long.
+// A list leads to a target in a direction exactly when, in the task's order, it is a plan; of two directions either neither has such a
+// list, or the shortest are equally long.
 pub fn directions_ask_one_question()
     ensures ordered { λ _. ⌜ Ordered ⌝ }
     ensures same { λ _. ⌜ Same-length ⌝ }

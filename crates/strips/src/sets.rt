@@ -25,7 +25,8 @@ pub fn is_within(a: u64, b: u64) -> bool
 // All facts of a task of n facts.
 pub(crate) fn all_facts(n: u8) -> u64
     requires { ⌜ (1 ≤ n) × (n ≤ 64) ⌝ }
-    ensures { λ r. ⌜ r ≡ full n ⌝ }
+    ensures value { λ r. ⌜ r ≡ full n ⌝ }
+    ensures facts { λ r. ⌜ ((i : ℕ) → has r i ≡ ltb i n) ⌝ }
 {
     u64::MAX >> (64 - n)
 }
@@ -33,7 +34,8 @@ pub(crate) fn all_facts(n: u8) -> u64
 // Whether no fact of the set is at or past n.
 pub(crate) fn is_of(n: u8, set: u64) -> bool
     requires { ⌜ (1 ≤ n) × (n ≤ 64) ⌝ }
-    ensures { λ r. ⌜ r ≡ ltb set (2 ^ n) ⌝ }
+    ensures value { λ r. ⌜ r ≡ ltb set (2 ^ n) ⌝ }
+    ensures facts { λ r. ⌜ Exactly r ((i : ℕ) → n ≤ i → has set i ≡ false) ⌝ }
 {
     set <= all_facts(n)
 }
@@ -41,18 +43,19 @@ pub(crate) fn is_of(n: u8, set: u64) -> bool
 // The facts below n that are not in the set.
 pub(crate) fn opposite(n: u8, set: u64) -> u64
     requires { ⌜ (1 ≤ n) × (n ≤ 64) ⌝ }
-    ensures { λ r. ⌜ r ≡ complement n set ⌝ }
+    ensures value { λ r. ⌜ r ≡ complement n set ⌝ }
+    ensures facts { λ r. ⌜ ((i : ℕ) → has r i ≡ (ltb i n && not (has set i))) ⌝ }
 {
     difference(all_facts(n), set)
 }
 
 // The lowest fact of a set, where it has one.
-pub fn lowest(set: u64) -> Option<u32>
+pub fn lowest(set: u64) -> Option<usize>
     ensures { λ r. ⌜ elim r [ Some i ↦ (i < 64) × (has set i ≡ true) × ((j : ℕ) → j < i → has set j ≡ false) | None ↦ (j : ℕ) → has set j ≡ false ] ⌝ }
 {
     if set == 0 {
         None
     } else {
-        Some(set.trailing_zeros())
+        Some(set.trailing_zeros() as usize)
     }
 }

@@ -1,4 +1,5 @@
-// Tasks: the types and what always holds of them. What speaks of the types stands in making and in spaces.
+// Tasks: the types and what always holds of them. A definition that names a type cannot be cited in the file of the type, so the functions
+// on tasks stand in making and in spaces.
 ghost use denote.Ref.{now};
 ghost use lib.ListN.{length, take};
 ghost use mathlib.Core.Bool.{true};
@@ -11,7 +12,7 @@ use crate::action::Action;
 pub(crate) const MAX_ACTIONS: usize = 256;
 
 // The count of facts, the actions in their order, the facts that hold now, and those that are to hold.
-#[derive(Clone, Copy)]
+#[derive(Drop)]
 pub struct Task {
     pub(crate) facts: u8,
     pub(crate) count: u16,

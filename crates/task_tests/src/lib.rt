@@ -77,14 +77,18 @@ mod tests {
         let task = task(&[GRIND, PACK])?;
         check_eq(planned(0, &task, 8).0, Ok(Outcome::NoPlan(2)))?;
         check_eq(planned(1, &task, 8).0, Ok(Outcome::NoPlan(4)))?;
+        check_eq(planned(2, &task, 8).0, Ok(Outcome::NoPlan(4)))?;
+        check_eq(planned(3, &task, 8).0, Ok(Outcome::NoPlan(2)))?;
         check(check_in(0, &task, &[3, 4]).is_ok())?;
         check(check_in(1, &task, &[8, 11, 6, 7]).is_ok())?;
+        check(check_in(2, &task, &[7, 4, 9, 8]).is_ok())?;
+        check(check_in(3, &task, &[12, 11]).is_ok())?;
         check_eq(check_in(0, &task, &[3]), Err(Fault::NextMissing(0, 0)))?;
         check_eq(check_in(0, &task, &[3, 16]), Err(Fault::NotNode(1)))
     }
 
     #[test]
-    fn a_fourth_direction_is_refused() -> Result<(), Fail> {
+    fn a_direction_past_three_is_refused() -> Result<(), Fail> {
         let task = task(&[GRIND, WASH, PACK])?;
         let (answer, moves) = planned(4, &task, 8);
         check_eq(answer, Err(Fault::NoSuchDirection))?;

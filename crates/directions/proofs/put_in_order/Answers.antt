@@ -15,6 +15,14 @@ returns-in-1 c = record {
   past = c .turn-round .ensures .past;
 }
 
+pub returns-then-direction-lt1 : need.returns-then-direction-lt1
+returns-then-direction-lt1 c = record {
+  plan = λ s.
+      ordered-plan (taskIn (c .args .task .now)) (c .args .task .now .ok) (c .args .direction) (take (c .args .n) (c .args .plan .now)) (take (c .args .n) (c .args .plan .now))
+      (sym (order-kept (c .args .direction) (take (c .args .n) (c .args .plan .now)) (λ a b. omega arith))) s;
+  past = refl;
+}
+
 pub returns-else-direction-lt3 : need.returns-else-direction-lt3
 returns-else-direction-lt3 c = record {
   plan = λ s.
