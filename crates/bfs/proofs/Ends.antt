@@ -1,20 +1,19 @@
 -- What the rows hold where a search ends.
-use Prim.Native.Nat.{ℕ, zero, suc, _+_, _<_, _≤_, zero-le}
-use mathlib.Core.Bool.{true, false}
-use mathlib.Core.Path.{_≡_, refl, sym, ap, subst, _∙_}
-use mathlib.Core.List.{List, []}
+use Prim.Native.Nat.{ℕ, zero, suc, _<_, _≤_, zero-le}
+use mathlib.Core.Bool.{true}
+use mathlib.Core.Path.{_≡_, refl, sym, ap, _∙_}
+use mathlib.Core.List.{[]}
 use mathlib.Core.Logic.{_⊎_, inl, inr}
 use native.Mathlib.Omega.{arith}
 use lib.ListN.{length}
 use Rattle.std.proofs.shelf.Tests.{cases-lt}
 use Rattle.std.specs.declared.option.Option.the-variants.{Some}
 use Rattle.space.specs.Meaning.{Meaning, Lawful}
-use Rattle.space.specs.Paths.{Distance, Nearest, Counted}
-use Rattle.space.specs.Rows.{Held, Count, More, Closed}
+use Rattle.space.specs.Paths.{Nearest, Counted}
+use Rattle.space.specs.Rows.{Held, Count, Closed}
 use Rattle.space.proofs.Paths.{Steps, leads-steps, leads-solves, distance-steps}
 use Rattle.space.proofs.Counting.{after, after-apart, after-all}
 use Rattle.bfs.specs.declared.table.Link.{Link}
-use Rattle.bfs.specs.Tables.{Table}
 use Rattle.bfs.specs.Progress.{Stage, Crowded}
 use Rattle.bfs.proofs.Stages.{row-least, nearer-held, stage-unmet, at-most, near-counted, stage-counted, new-far}
 

@@ -2,10 +2,9 @@
 use Prim.Native.Nat.{ℕ, _<_, _≤_}
 use mathlib.Core.Bool.{Bool, true, false}
 use mathlib.Core.Path.{_≡_, refl, sym, ap, ap₂, subst, _∙_}
-use mathlib.Core.List.{List}
 use native.Mathlib.Omega.{arith}
 use lib.Dec.{leb}
-use lib.ListN.{length, take}
+use lib.ListN.{length}
 use Rattle.std.proofs.shelf.Lists.{length-take-le}
 use Rattle.std.proofs.shelf.Tests.{le-leb, lt-leb}
 use Rattle.std.specs.declared.result.Result.{Result}
@@ -17,14 +16,14 @@ use Rattle.fault.specs.declared.Place.the-variants.{At}
 use Rattle.fault.specs.Refusals.{refusal, refused}
 use Rattle.fault.proofs.Apart.{told-apart}
 use Rattle.space.specs.Meaning.{Meaning}
-use Rattle.space.specs.Paths.{solves, Nearest, Hopeless}
+use Rattle.space.specs.Paths.{Nearest, Hopeless}
 use Rattle.space.specs.Rows.{Count, More, Few}
 use Rattle.space.proofs.Counting.{count-one, more-count, more-few}
 use Rattle.space.proofs.ClosedSets.{closed-few}
 use Rattle.bfs.specs.declared.Outcome.{Outcome}
 use Rattle.bfs.specs.declared.Outcome.the-variants.{Plan, NoPlan}
-use Rattle.bfs.specs.Answers.{Tables, Buffers, capacity, Answered, Filled, Overfilled, Planned, Exhausted, RowsShort, PlacesShort, Refused, rows-short, places-short}
-use Rattle.bfs.specs.Exactness.{decided, decided-none, Exact, Answers-exact}
+use Rattle.bfs.specs.Answers.{Tables, Buffers, capacity, Answered, Filled, Planned, Exhausted, Refused, rows-short, places-short}
+use Rattle.bfs.specs.Exactness.{decided, decided-none, Exact}
 
 -- the two refusals, by what they say
 too-few-rows : (f : Fault) → refusal f ≡ refused 15 Search (At 0) → f ≡ TooFewRows

@@ -1,9 +1,8 @@
 -- From the node table that a search filled to the lent slices.
-use Prim.Native.Nat.{ℕ, _≤_, min}
-use mathlib.Core.Path.{_≡_, sym, ap, subst, _∙_}
+use Prim.Native.Nat.{ℕ}
+use mathlib.Core.Path.{_≡_, subst, _∙_}
 use mathlib.Core.List.{List}
 use native.Mathlib.Omega.{arith}
-use lib.ListN.{length}
 use denote.Ref.{now}
 use Rattle.space.specs.Meaning.{Meaning}
 use Rattle.space.specs.Rows.{nodeAt}
@@ -13,7 +12,7 @@ use Rattle.bfs.specs.declared.table.Explored.{Explored}
 use Rattle.bfs.specs.declared.table.Explored.the-variants.{Target, All, Short}
 use Rattle.bfs.specs.Tables.{linkAt, Past}
 use Rattle.bfs.specs.Answers.{tables, capacity, Filled, Overfilled}
-use Rattle.bfs.specs.Progress.{Room, Grown, Whole, Crowded, Explored-so, Tables-so}
+use Rattle.bfs.specs.Progress.{Grown, Whole, Crowded, Explored-so, Tables-so}
 
 module _ {N : Type 0} (m : Meaning N) (t t′ : NodeTable N) (g : Grown m t t′) (q : t .capacity ≡ capacity (tables (now (t .rows)) (now (t .links)))) where
   -- the rows of a whole table

@@ -1,12 +1,12 @@
 -- The moves along the links.
 use Prim.Native.Nat.{ℕ, zero, suc, _+_, _-_, _<_, _≤_}
 use mathlib.Core.Bool.{true}
-use mathlib.Core.Path.{_≡_, refl, sym, ap, ap₂, subst, _∙_}
+use mathlib.Core.Path.{_≡_, refl, sym, ap, ap₂, _∙_}
 use mathlib.Core.List.{List, [], _∷_, _++_, append-assoc}
 use native.Mathlib.Omega.{arith}
 use native.Mathlib.Numerals.{add-one}
 use lib.ListN.{length, take, drop, set}
-use Rattle.std.proofs.shelf.Lists.{drop-set, drop-set-lt}
+use Rattle.std.proofs.shelf.Lists.{drop-set}
 use Rattle.bfs.specs.declared.table.Link.{Link}
 use Rattle.space.specs.Meaning.{Meaning}
 use Rattle.space.specs.Paths.{Leads, Nearest}

@@ -3,20 +3,19 @@ use Prim.Native.Nat.{ℕ, _+_, _-_, _<_, _≤_}
 use mathlib.Core.Bool.{Bool, true, false}
 use mathlib.Core.Path.{_≡_, refl, sym, ap, subst, _∙_}
 use mathlib.Core.List.{List}
-use mathlib.Core.Logic.{_⊎_, inl, inr}
 use native.Mathlib.Omega.{arith}
 use lib.ListN.{length, getD, set, drop}
 use denote.Ref.{now}
 use Rattle.std.proofs.shelf.Lists.{getD-set-same, getD-set-other, drop-set-lt, drop-drop, length-set}
-use Rattle.std.proofs.shelf.Tests.{cases-lt, true≢false, false≢true}
+use Rattle.std.proofs.shelf.Tests.{true≢false, false≢true}
 use Rattle.std.specs.declared.option.Option.{Option}
 use Rattle.std.specs.declared.option.Option.the-variants.{Some, None}
 use Rattle.space.specs.Meaning.{Meaning, Lawful}
 use Rattle.space.specs.Rows.{nodeAt, Held}
 use Rattle.bfs.specs.declared.table.Link.{Link}
 use Rattle.bfs.specs.declared.table.NodeTable.{NodeTable}
-use Rattle.bfs.specs.Tables.{origin, linkAt, Past}
-use Rattle.bfs.specs.Progress.{Room, Grew, Grown, Stage, At, Overfull, Turned}
+use Rattle.bfs.specs.Tables.{origin, linkAt}
+use Rattle.bfs.specs.Progress.{Room, Grew, Grown, Stage, At, Turned}
 use Rattle.bfs.proofs.Stages.{passed, pushed, finished, layered, begun}
 use Rattle.bfs.proofs.Ends.{end-crowded}
 

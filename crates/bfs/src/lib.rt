@@ -1,5 +1,4 @@
 // Breadth-first search over any space.
-ghost use mathlib.Core.Path.{_≡_};
 ghost use Rattle.bfs.specs.Answers.{Answered, buffers};
 ghost use Rattle.bfs.specs.Exactness.{Answers-exact};
 ghost use Rattle.space.specs.Meaning.{Meaning};

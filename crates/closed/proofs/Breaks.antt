@@ -7,7 +7,6 @@ use native.Mathlib.Omega.{arith}
 use lib.ListN.{length, getD}
 use Rattle.std.proofs.shelf.Lists.{getD-read}
 use Rattle.std.proofs.shelf.Tests.{cases-lt}
-use Rattle.std.specs.declared.option.Option.the-variants.{Some, None}
 use Rattle.space.specs.Meaning.{Meaning, Lawful}
 use Rattle.space.specs.Rows.{nodeAt, Held}
 use Rattle.closed.specs.Check.{Keeps, Started}

@@ -13,7 +13,7 @@ use Rattle.std.specs.declared.result.Result.the-variants.{Ok, Err}
 use Rattle.fault.specs.declared.Fault.{Fault}
 use Rattle.fault.specs.declared.Layer.the-variants.{Checker}
 use Rattle.fault.specs.declared.Place.the-variants.{At, RowMove}
-use Rattle.fault.specs.Refusals.{refusal, refused}
+use Rattle.fault.specs.Refusals.{refused}
 use Rattle.fault.proofs.Apart.{told-apart}
 use Rattle.space.specs.Meaning.{Meaning}
 use Rattle.space.specs.Rows.{nodeAt, Closed}

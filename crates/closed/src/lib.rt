@@ -1,5 +1,4 @@
 // Whether a list of nodes is a closed set of a space: evidence that no target can be reached.
-ghost use lib.ListN.{length};
 ghost use mathlib.Core.Bool.{false, true};
 ghost use mathlib.Core.Path.{_≡_};
 ghost use Rattle.closed.specs.Check.{Checked, First-missing, First-move, First-no-node, First-target, Keeps, Misses, Started};

@@ -1,18 +1,15 @@
 -- What moves do, and which are forbidden.
-use Prim.Native.Nat.{ℕ, _+_, _-_, _≤_, _<_, min}
-use mathlib.Core.Path.{_≡_, refl, sym, ap, subst, _∙_}
+use Prim.Native.Nat.{ℕ, _+_, _-_, _≤_, _<_}
+use mathlib.Core.Path.{_≡_, refl, ap, _∙_}
 use mathlib.Core.Bool.{Bool, true, false, _&&_, not}
 use mathlib.Core.Logic.{_⊎_, inl, inr}
 use native.Mathlib.Omega.{arith}
 use lib.Dec.{eqb, ltb}
-use Rattle.std.proofs.shelf.Tests.{and-parts, and-from, and-cases, and-left, and-right, not-true, not-false, not-from-true, ltb-true, ltb-false, le-ltb, eqb-true, eqb-false, eq-eqb, cases-lt, cases-eq}
-use Rattle.std.specs.declared.option.Option.{Option}
-use Rattle.std.specs.declared.option.Option.the-variants.{Some, None}
+use Rattle.std.proofs.shelf.Tests.{and-parts, and-cases, and-left, and-right, not-true, not-false, not-from-true, ltb-true, ltb-false, le-ltb, eqb-true, eqb-false, eq-eqb, cases-lt}
+use Rattle.std.specs.declared.option.Option.the-variants.{None}
 use Rattle.hoppers.specs.declared.levels.Levels.{Levels}
-use Rattle.hoppers.specs.declared.moves.Move.{Move}
-use Rattle.hoppers.specs.declared.moves.Move.the-variants.{Fill, Empty, Pour}
 use Rattle.hoppers.specs.Levels.{level, put}
-use Rattle.hoppers.specs.Moves.{allowed, poured, transferred, pourable, made, Others, Effects, Forbidden}
+use Rattle.hoppers.specs.Moves.{allowed, poured, transferred, pourable, Others, Effects, Forbidden}
 use Rattle.hoppers.proofs.Laws.{put-same, put-other, allowed-gives}
 
 -- an answer of None is a test that failed

@@ -1,5 +1,5 @@
 -- Hoppers keep the laws of a space.
-use Prim.Native.Nat.{ℕ, zero, suc, _+_, _-_, _*_, _≤_, _<_, min}
+use Prim.Native.Nat.{ℕ, zero, suc, _+_, _-_, _≤_, _<_}
 use mathlib.Core.Path.{_≡_, refl, sym, ap, subst, _∙_}
 use mathlib.Core.Bool.{Bool, true, false, _&&_, not}
 use mathlib.Core.List.{List, [], _∷_}
@@ -12,7 +12,7 @@ use Rattle.std.proofs.shelf.Tests.{and-parts, and-from, leb-true, le-leb, ltb-t
 use Rattle.std.proofs.shelf.Bits.{mul-le}
 use Rattle.std.specs.declared.option.Option.{Option}
 use Rattle.std.specs.declared.option.Option.the-variants.{Some, None}
-use Rattle.space.specs.Meaning.{Meaning, Lawful}
+use Rattle.space.specs.Meaning.{Lawful}
 use Rattle.hoppers.specs.declared.levels.Levels.{Levels}
 use Rattle.hoppers.specs.declared.moves.Move.{Move}
 use Rattle.hoppers.specs.declared.moves.Move.the-variants.{Fill, Empty, Pour}

@@ -1,14 +1,11 @@
 -- How moves are numbered.
 use Prim.Native.Nat.{ℕ, _+_, _-_, _*_, _/_, _%_, _≤_, _<_}
 use mathlib.Core.Path.{_≡_, ap, ap₂, _∙_}
-use mathlib.Core.Bool.{Bool, true, false, cond}
 use native.Mathlib.Omega.{arith}
 use lib.Dec.{ltb}
 use Rattle.std.proofs.shelf.Bits.{div-mul-add, mod-mul-add, mul-add-lt}
 use Rattle.std.proofs.shelf.Tests.{lt-ltb, le-ltb, cond-true, cond-false}
-use Rattle.std.specs.declared.option.Option.{Option}
 use Rattle.std.specs.declared.option.Option.the-variants.{Some, None}
-use Rattle.hoppers.specs.declared.moves.Move.{Move}
 use Rattle.hoppers.specs.declared.moves.Move.the-variants.{Fill, Empty, Pour}
 use Rattle.hoppers.specs.Moves.{moveOf, Numbered}
 
@@ -40,7 +37,3 @@ numbered = record {
       ∙ ap₂ (λ (x y : ℕ). Some (Pour x y)) (div-mul-add i h j g) (mod-mul-add i h j g);
   none = λ h k l. none-at h k l;
 }
-
--- no hoppers, no moves
-pub none-of-none : (h k : ℕ) → h ≡ 0 → moveOf h k ≡ None
-none-of-none h k q = ap (λ (x : ℕ). moveOf x k) q ∙ none-at 0 k (omega arith)

@@ -2,8 +2,6 @@
 ghost use lib.ListN.{length};
 ghost use mathlib.Core.Bool.{true, false};
 ghost use mathlib.Core.Path.{_≡_};
-ghost use Prim.Native.Nat.{ℕ, _<_, _≤_};
-ghost use Rattle.hoppers.specs.Levels.{level};
 ghost use Rattle.hoppers.specs.Moves.{moveOf};
 ghost use Rattle.hoppers.specs.Setting.{Set-up, Good-levels, hoppers};
 use crate::levels::Levels;

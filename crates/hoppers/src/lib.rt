@@ -1,5 +1,4 @@
 // Hoppers that are filled, emptied and poured into one another: a search space.
-ghost use mathlib.Core.Path.{_≡_};
 ghost use Rattle.hoppers.specs.Moves.{Effects-always, Forbidden-always, Numbered};
 ghost use Rattle.hoppers.specs.Setting.{Nodes-as-told};
 

@@ -1,11 +1,10 @@
 -- Rows of nodes: what they hold, how many nodes are counted, and when they are a closed set. Assumes nothing.
 -- A row is a number, and R says which node it holds.
 use mathlib.Core.Path.{_≡_}
-use mathlib.Core.Bool.{Bool, true, false}
+use mathlib.Core.Bool.{true, false}
 use mathlib.Core.List.{List}
 use Prim.Native.Nat.{ℕ, _≤_, _<_}
-use lib.ListN.{length, getD}
-use Rattle.std.specs.declared.option.Option.{Option}
+use lib.ListN.{getD}
 use Rattle.std.specs.declared.option.Option.the-variants.{Some}
 use Rattle.space.specs.Meaning.{Meaning}
 use Rattle.space.specs.Paths.{Leads, Counted}

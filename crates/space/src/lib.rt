@@ -1,5 +1,5 @@
 // What a search space is: six questions, whose answers are those of one meaning.
-ghost use mathlib.Core.Bool.{Bool, true, false};
+ghost use mathlib.Core.Bool.{true, false};
 ghost use mathlib.Core.Path.{_≡_};
 ghost use lib.ListN.{length};
 ghost use Rattle.space.specs.Meaning.{Meaning, Lawful};

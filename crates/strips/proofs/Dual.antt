@@ -1,23 +1,23 @@
 -- The mirror of a space, and the dual task.
-use Prim.Native.Nat.{ℕ, zero, suc, _+_, _^_, _<_, _≤_}
+use Prim.Native.Nat.{ℕ, zero, suc, _^_, _<_, _≤_}
 use mathlib.Core.Path.{_≡_, refl, sym, ap, ap₂, _∙_}
-use mathlib.Core.Bool.{Bool, true, false, not, _&&_, _||_}
-use mathlib.Core.List.{List, [], _∷_, _++_, map, reverse, reverse-reverse}
+use mathlib.Core.Bool.{Bool, true, false, _&&_}
+use mathlib.Core.List.{List, [], _∷_, map, reverse, reverse-reverse}
 use native.Mathlib.Omega.{arith}
-use lib.Dec.{leb, ltb, eqb}
-use lib.ListN.{length, getD, length-map, List·getD-map, length-reverse}
-use lib.Bits.{bitAnd, bitOr, or-lt}
+use lib.Dec.{ltb}
+use lib.ListN.{length, length-map, List·getD-map, length-reverse}
+use lib.Bits.{or-lt}
 use Rattle.std.proofs.shelf.Ways.{tells}
 use Rattle.std.specs.declared.option.Option.{Option}
 use Rattle.std.specs.declared.option.Option.the-variants.{Some, None}
 use Rattle.space.specs.Meaning.{Meaning, Lawful}
-use Rattle.space.specs.Paths.{onward, targeted, solves, Nearest, Hopeless}
-use Rattle.strips.specs.Sets.{has, without, within, complement, full}
+use Rattle.space.specs.Paths.{onward, targeted, solves, Nearest}
+use Rattle.strips.specs.Sets.{has, within, complement}
 use Rattle.strips.specs.Actions.{allowed, progress, consistent, regress, dual-action}
 use Rattle.strips.specs.Tasks.{Task, idle, action-at, of-sets, given, fine, fine-action, fine-actions, forward, backward, mirror, turned, only}
 use Rattle.strips.specs.Duality.{dual, carries, isPlan, spaceIn, Forwards, Backwards, Duality, Involution, Dual-fine, Mirrored, Ordered, in-order, Same-length}
 use Rattle.strips.specs.declared.action.Action.{Action}
-use Rattle.strips.proofs.Words.{within-at, within-of, digits, equal, has-and, has-none, has-past}
+use Rattle.strips.proofs.Words.{within-at, within-of, digits, equal, has-past}
 use Rattle.space.proofs.Least.{nearest-exists}
 use Rattle.strips.proofs.Laws.{fine-at, forward-to, backward-to, forward-lawful, backward-lawful, mirror-lawful, complement-below, without-lt}
 use Rattle.strips.proofs.Regression.{both, turn, fwd, sets-run, consistent-at, consistent-of}
@@ -110,10 +110,6 @@ dual-target n s w hs hw = both _ _ (go s w) (go w s)
 -- the parts of a step of a fine task
 action-fine : (h : Task) → fine h ≡ true → (k : ℕ) → k < length (h .actions) → fine-action (h .facts) (action-at h k) ≡ true
 action-fine h f k hk = let fs : fine-actions (h .facts) (h .actions) ≡ true = grind arith in fine-at (h .facts) (h .actions) k fs hk
-
-given-same : (c d : Bool) (x y : ℕ) → c ≡ d → (c ≡ true → x ≡ y) → given c x ≡ given d y
-given-same true d x y e f = ap₂ given e (f refl)
-given-same false d x y e f = ap (λ (b : Bool). given b y) e
 
 turned-given : (n : ℕ) (c : Bool) (x : ℕ) → turned n (given c x) ≡ given c (complement n x)
 turned-given n true x = refl

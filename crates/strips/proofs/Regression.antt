@@ -1,19 +1,17 @@
 -- Forward and backward plans are the same lists, read in opposite orders.
-use Prim.Native.Nat.{ℕ, zero, suc, _+_, _^_, _<_, _≤_}
+use Prim.Native.Nat.{ℕ, _+_, _^_, _<_}
 use mathlib.Core.Path.{_≡_, refl, sym, ap, _∙_}
-use mathlib.Core.Bool.{Bool, true, false, not, _&&_, _||_}
+use mathlib.Core.Bool.{Bool, true, false, _&&_}
 use mathlib.Core.List.{List, [], _∷_, _++_, reverse, reverse-cons}
 use native.Mathlib.Omega.{arith}
-use lib.Dec.{leb, ltb, eqb}
-use lib.ListN.{length, getD}
-use lib.Bits.{bitAnd, bitOr}
+use lib.Dec.{ltb}
+use lib.ListN.{length}
 use Rattle.std.proofs.shelf.Ways.{tells}
-use Rattle.strips.specs.Sets.{has, without, within}
+use Rattle.strips.specs.Sets.{has, within}
 use Rattle.strips.specs.Actions.{allowed, progress, consistent, regress}
-use Rattle.std.specs.declared.option.Option.{Option}
-use Rattle.std.specs.declared.option.Option.the-variants.{Some, None}
+use Rattle.std.specs.declared.option.Option.the-variants.{Some}
 use Rattle.space.specs.Meaning.{Meaning}
-use Rattle.space.specs.Paths.{onward, targeted, solves}
+use Rattle.space.specs.Paths.{onward, targeted}
 use Rattle.strips.specs.Tasks.{Task, action-at, of-sets, given}
 use Rattle.strips.specs.declared.action.Action.{Action}
 use Rattle.strips.proofs.Words.{within-at, within-of, disjoint-at, disjoint-of, digits}

@@ -1,18 +1,18 @@
 -- Words by their digits.
 use mathlib.Core.Path.{_≡_, refl, sym, ap, ap₂, _∙_, subst}
 use mathlib.Core.Bool.{Bool, true, false, not, _&&_, _||_}
-use Prim.Native.Nat.{ℕ, zero, suc, _+_, _-_, _*_, _/_, _%_, _^_, _≤_, _<_, zero-le, min, max}
+use Prim.Native.Nat.{ℕ, zero, suc, _+_, _-_, _*_, _/_, _%_, _^_, _≤_, _<_, zero-le}
 use native.Mathlib.Nat.{mod-lt, div-add-mod', zero-lt-suc, pow-suc, div-one, zero-add, lt-of-lt-of-le, mod-eq-of-lt}
 use native.Mathlib.Omega.{arith}
 use native.Mathlib.Numerals.{add-one, one-add}
 use lib.Arith.{lt-one, lt-of-le-ne}
 use lib.Count.{trailingZeros, under, trailing-le}
-use lib.Dec.{eqb, ltb, T, lit<, eqb→eq, leb·zero, leb·suc-zero, leb·suc-suc}
+use lib.Dec.{eqb, ltb, lit<, eqb→eq, leb·zero, leb·suc-zero, leb·suc-suc}
 use lib.Pow.{shr-shr, shr-lt, pow-pos, pow-mono, ones-split, high, low, ones-lt}
-use lib.Bits.{bitAnd, bitOr, bitXor, and-shr, or-shr, xor-shr, and-mod, or-mod, xor-mod, and-le-l, and-mask, or-lt, xor-lt, and-lt, xor-add-and, and-comm}
+use lib.Bits.{bitAnd, bitOr, bitXor, and-shr, or-shr, xor-shr, and-mod, or-mod, xor-mod, and-mask, xor-add-and, and-comm}
 use Rattle.std.proofs.shelf.Tests.{ltb-true, lt-ltb}
 use Rattle.std.proofs.shelf.Ways.{tells}
-use Rattle.strips.specs.Sets.{has, full, without, complement, within, disjoint, Exactly, Within, By-membership}
+use Rattle.strips.specs.Sets.{has, full, without, within, disjoint, Exactly, Within, By-membership}
 
 two-pos : zero < 2
 two-pos = zero-lt-suc 1

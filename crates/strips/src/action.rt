@@ -1,5 +1,5 @@
 // Actions on sets of facts.
-ghost use mathlib.Core.Bool.{false, not, true, _&&_, _||_};
+ghost use mathlib.Core.Bool.{false, not, _&&_, _||_};
 ghost use mathlib.Core.Path.{_≡_};
 ghost use Prim.Native.Nat.{ℕ};
 ghost use Rattle.strips.specs.Actions.{allowed, consistent, dual-action, progress, regress};

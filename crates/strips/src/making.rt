@@ -1,10 +1,8 @@
 // How tasks are made.
 ghost use denote.Ref.{now};
 ghost use lib.ListN.{length, take};
-ghost use mathlib.Core.Bool.{false, true};
 ghost use mathlib.Core.Path.{_≡_};
 ghost use Prim.Native.Nat.{_≤_};
-ghost use Rattle.std.specs.declared.option.Option.the-variants.{None, Some};
 ghost use Rattle.strips.specs.Tasks.{fine, fine-action, fine-actions};
 ghost use Rattle.strips.specs.Views.{taskIn, Made, taskOf};
 use crate::action::Action;

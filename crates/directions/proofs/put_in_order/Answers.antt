@@ -1,7 +1,6 @@
 use mathlib.Core.Path.{sym, _∙_, refl}
 use native.Mathlib.Omega.{arith}
 use lib.ListN.{take}
-use borrow.Author.Needs.{needs}
 use Rattle.strips.specs.Views.{taskIn}
 use Rattle.directions.proofs.Told.{order-turned, order-kept}
 use Rattle.directions.proofs.Agreement.{ordered-plan}

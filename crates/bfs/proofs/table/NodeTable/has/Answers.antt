@@ -1,7 +1,4 @@
-use mathlib.Core.Path.{_≡_}
-use mathlib.Core.List.{List}
 use Prim.Native.Nat.{_-_}
-use lib.ListN.{take, drop}
 use borrow.Author.Needs.{needs}
 use Rattle.space.proofs.Fronts.{front-held, held-front}
 use Rattle.bfs.proofs.table.NodeTable.has.Needs as need
