@@ -1,4 +1,6 @@
 // Planning on the text of a sheet.
+#![tactic(auto)]
+
 ghost use Rattle.bfs.specs.Answers.{buffers};
 ghost use Rattle.answer.specs.Planned.{PlannedOn, ToldOfTheSheet};
 

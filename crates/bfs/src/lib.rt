@@ -1,4 +1,6 @@
 // Breadth-first search over any space.
+#![tactic(auto)]
+
 ghost use Rattle.bfs.specs.Answers.{Answered, buffers};
 ghost use Rattle.bfs.specs.Exactness.{AnswersExact};
 ghost use Rattle.space.specs.Meaning.{Meaning};

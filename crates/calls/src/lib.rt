@@ -1,4 +1,6 @@
 // The calls that a Rust program links. A slice crosses as a pointer and a length.
+#![tactic(auto)]
+
 ghost use Rattle.calls.specs.Calls.{Tried, Dualised, refusing};
 ghost use Rattle.std.specs.Prelude.{◌≡◌};
 

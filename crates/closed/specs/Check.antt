@@ -4,17 +4,21 @@ use Rattle.fault.specs.declared.Fault.{Fault}
 use Rattle.fault.specs.declared.Layer.TheVariants.{Checker}
 use Rattle.fault.specs.declared.Place.{Place}
 use Rattle.fault.specs.declared.Place.TheVariants.{At, RowMove}
-use Rattle.fault.specs.Refusals.{refusal, refused, spot}
+use Rattle.fault.specs.Refusals.{refusal, refused}
 use Rattle.space.specs.Meaning.{Meaning}
 use Rattle.space.specs.Rows.{node_at, Held, Kept, Closed}
 
 -- the row and the move that a refusal names; where it names no move, 0, which nothing below looks at
+abbrev pub row_of : Place → ℕ
+row_of (At i) = i
+row_of (RowMove i k) = i
+
 abbrev pub move_of : Place → ℕ
 move_of (At i) = 0
 move_of (RowMove i k) = k
 
 abbrev pub row : Fault → ℕ
-row f = spot f
+row f = row_of (refusal f).place
 
 abbrev pub move : Fault → ℕ
 move f = move_of (refusal f).place

@@ -1,4 +1,6 @@
 // Whether a list of nodes is a closed set of a space: evidence that no target can be reached.
+#![tactic(auto)]
+
 ghost use Rattle.std.specs.Prelude.{◌≡◌, true, false};
 ghost use Rattle.closed.specs.Check.{Checked, FirstMissing, FirstMove, FirstNoNode, FirstTarget, Keeps, Misses, Started};
 ghost use Rattle.closed.specs.Judgement.{ChecksSound};

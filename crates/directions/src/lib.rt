@@ -1,4 +1,6 @@
 // Planning and checking in each of the four directions of a task.
+#![tactic(auto)]
+
 ghost use Rattle.std.specs.Prelude.{◌≡◌, ◌≤◌, true, reverse, length, take, drop};
 ghost use Rattle.bfs.specs.Answers.{Answered, buffers};
 ghost use Rattle.closed.specs.Check.{Checked};

@@ -1,6 +1,6 @@
 -- Flags and the words that they are read from.
 use Rattle.std.proofs.Common.{◌≡◌, ℕ, zero, suc, ◌+◌, ◌*◌, ◌/◌, ◌%◌, ◌^◌, ◌<◌, Bool, true, false, cond, eqb, List, [], ◌∷◌, map, length, get_or, codes, sym, ap, ◌∙◌, div-one, one-add, arith, shr-shr}
-use Rattle.std.proofs.lemmas.List.{get_or_map}
+use Rattle.std.proofs.lemmas.List.{get_or-map}
 use Rattle.std.proofs.lemmas.Bool.{false≢true, eq-eqb, ne_eqb}
 use Rattle.std.proofs.lemmas.Bool.Decides.{nat_tests}
 use Rattle.strips.specs.Sets.{has}
@@ -38,7 +38,7 @@ has_set (f ∷ fs) (suc i) = has_later f (set_of fs) i ∙ has_set fs i
 
 -- a fact is marked with a letter where the letter is in its word
 pub has_marked : (x : ℕ) (line : List ℕ) (k : ℕ) → k < length (cells line) → has (marked x line) k ≡ holds x (piece (cells line) k)
-has_marked x line k h = has_set (map (holds x) (cells line)) k ∙ get_or_map (holds x) (cells line) k [] false h
+has_marked x line k h = has_set (map (holds x) (cells line)) k ∙ get_or-map (holds x) (cells line) k [] false h
 
 -- a mark is the word of its flags
 pub mark_decoded : (w : List ℕ) → is_mark w ≡ true → mark_word (holds 112 w) (holds 97 w) (holds 100 w) ≡ w

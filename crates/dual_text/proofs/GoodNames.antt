@@ -1,6 +1,6 @@
 -- The names of an accepted text are names, all different.
 use Rattle.std.proofs.Common.{◌≡◌, ℕ, suc, ◌<◌, true, List, [], ◌∷◌, length, sym, refl, ap, ◌∙◌, arith}
-use Rattle.std.proofs.lemmas.List.{get_or_map, length-map}
+use Rattle.std.proofs.lemmas.List.{get_or-map, length-map}
 use Rattle.std.proofs.lemmas.Bool.{and_from}
 use Rattle.pieces.specs.Pieces.{piece}
 use Rattle.words.specs.Words.{is_name}
@@ -21,7 +21,7 @@ names_of_actions text = length-map (action_lines text) (λ (line : List ℕ). pi
 -- name k is the first word of the line of action k
 name_of_action : (text : List ℕ) (k : ℕ) → k < action_count text → piece (action_names text) k ≡ action_name text k
 name_of_action text k h =
-    get_or_map (λ (line : List ℕ). piece (words_in line) 0) (action_lines text) k [] [] (omega (arith, the_action_lines text))
+    get_or-map (λ (line : List ℕ). piece (words_in line) 0) (action_lines text) k [] [] (omega (arith, the_action_lines text))
     ∙ ap (λ (line : List ℕ). piece (words_in line) 0) (action_line text k h)
 
 -- the names of an accepted text are names, all different

@@ -1,7 +1,7 @@
 -- A text made of lines of words splits into those lines, and a line into its words.
 use Rattle.std.proofs.Common.{◌≡◌, ℕ, zero, suc, ◌-◌, ◌<◌, true, false, eqb, List, [], ◌∷◌, ◌++◌, map, length, get_or, refl, ap, ◌∙◌, arith}
 use Rattle.std.proofs.lemmas.Bool.{and_parts, and_from, not-true, eq-eqb}
-use Rattle.std.proofs.lemmas.List.{append-nil, length-append, length-map, get_or_append_left, get_or_map}
+use Rattle.std.proofs.lemmas.List.{append-nil, length-append, length-map, get_or_append_left, get_or-map}
 use Rattle.std.proofs.lemmas.Bool.Decides.{nat_tests}
 use Rattle.lines.specs.Grammar.{word_byte, word_bytes, is_word, are_words, is_line, are_lines, behind, joined, lines_text}
 use Rattle.pieces.specs.Pieces.{pieces, piece}
@@ -92,7 +92,7 @@ pub words_at : (rows : List (List (List ℕ))) (r : ℕ) → are_lines rows ≡ 
     → words_in (line_at (lines_text rows) r) ≡ get_or rows r []
 words_at rows r g h =
     ap (λ (z : List (List ℕ)). pieces 32 (piece z r)) (lines_split rows g)
-    ∙ ap (pieces 32) (get_or_append_left (map (joined 32) rows) ([] ∷ []) [] r (rw length-map h) ∙ get_or_map (joined 32) rows r [] [] h)
+    ∙ ap (pieces 32) (get_or_append_left (map (joined 32) rows) ([] ∷ []) [] r (rw length-map h) ∙ get_or-map (joined 32) rows r [] [] h)
     ∙ line_split (get_or rows r []) (line_among rows r g h)
 
 -- the number of lines

@@ -1,7 +1,7 @@
 -- The lines of an accepted text, written over with those of the dual text.
 use Rattle.std.proofs.Common.{◌≡◌, ℕ, ◌+◌, ◌<◌, ◌≤◌, true, ◌⊎◌, List, [], ◌∷◌, ◌++◌, map, length, drop, sym, refl, ap, ◌∙◌, ap₂, inl, inr, arith}
 use Rattle.std.proofs.lemmas.List.FromFn.{get_or-map-range_with_len, length-map-range_with_len}
-use Rattle.std.proofs.lemmas.List.{drop_at, get_or_append_left, get_or-drop, get_or_map, length-map, length_push}
+use Rattle.std.proofs.lemmas.List.{drop_at, get_or_append_left, get_or-drop, get_or-map, length-map, length_push}
 use Rattle.std.proofs.lemmas.Bool.{cases_lt, false≢true, ne_eqb}
 use Rattle.std.proofs.lemmas.Bool.Decides.{nat_tests}
 use Rattle.pieces.specs.Pieces.{piece}
@@ -84,7 +84,7 @@ rows_count text = length-map (turned_rows text) (joined 32) ∙ length-map-range
 pub turned_line : (text : List ℕ) (r : ℕ) → r < line_count text → piece (turned_lines text) r ≡ joined 32 (turned_row text r)
 turned_line text r h =
     get_or_append_left (map (joined 32) (turned_rows text)) ([] ∷ []) [] r (omega (arith, rows_count text))
-    ∙ get_or_map (joined 32) (turned_rows text) r [] [] (omega (arith, length-map-range_with_len (turned_row text) 0 (line_count text)))
+    ∙ get_or-map (joined 32) (turned_rows text) r [] [] (omega (arith, length-map-range_with_len (turned_row text) 0 (line_count text)))
     ∙ ap (joined 32) (get_or-map-range_with_len (turned_row text) 0 (line_count text) r r [] h (omega arith))
 
 module _ (text : List ℕ) (a : Accepted text) where

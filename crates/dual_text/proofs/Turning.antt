@@ -3,7 +3,7 @@ use Rattle.std.proofs.Common.{◌≡◌, ℕ, zero, suc, ◌+◌, ◌-◌, ◌<�
 use Rattle.std.specs.List.{range_with_len}
 use Rattle.std.proofs.lemmas.List.FromFn.{fill_by_all}
 use Rattle.std.proofs.lemmas.Slice.Eq.{bytes_eq-Decides}
-use Rattle.std.proofs.lemmas.List.{get_or_map, length-map}
+use Rattle.std.proofs.lemmas.List.{get_or-map, length-map}
 use Rattle.std.proofs.lemmas.Bool.{lt-ltb}
 use Rattle.lines.specs.Grammar.{lines_text}
 use Rattle.pieces.specs.Pieces.{piece}
@@ -44,7 +44,7 @@ module _ (line : List ℕ) (n : ℕ) (l : length (cells line) ≡ n) where
 
       here : (k : ℕ) → k < n → piece (map flag (cells line)) k ≡ cond (has (complement n (marked 49 line)) k) (codes "1") (off ∷ [])
       here k h =
-          get_or_map flag (cells line) k [] [] (omega arith)
+          get_or-map flag (cells line) k [] [] (omega arith)
           ∙ rw (outside k h) (exchanged (holds 49 (piece (cells line) k)))
 
   -- the line of an action with the dual marks is that of the dual action
@@ -59,7 +59,7 @@ module _ (line : List ℕ) (n : ℕ) (l : length (cells line) ≡ n) where
       here k h =
           let in_line : k < length (cells line) = omega arith in
           rw (has_marked 112 line k in_line, has_marked 97 line k in_line, has_marked 100 line k in_line)
-          (get_or_map dual_mark (cells line) k [] [] in_line)
+          (get_or-map dual_mark (cells line) k [] [] in_line)
 
 -- rows by number that are each those of a line's dual action are the rows of the dual actions
 rows_of_duals : (n j : ℕ) (row : ℕ → List (List ℕ)) (ls : List (List ℕ))

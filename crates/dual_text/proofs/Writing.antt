@@ -1,7 +1,7 @@
 -- A line whose words past the first are written over.
 use Rattle.std.proofs.Common.{◌≡◌, ℕ, zero, suc, ◌+◌, ◌-◌, ◌<◌, Bool, true, false, cond, ◌⊎◌, List, [], ◌∷◌, map, length, get_or, take, drop, replicate, codes, Decides, sym, refl, ap, ◌∙◌, inl, inr, arith}
 use borrow.Rule.Slice.PartMut.{put_mid}
-use Rattle.std.proofs.lemmas.List.{get_or_map, length-drop, length-map}
+use Rattle.std.proofs.lemmas.List.{get_or-map, length-drop, length-map}
 use Rattle.std.proofs.lemmas.Bool.{cases_Bool, cases_eq, eq-eqb, ne_eqb}
 use Rattle.pieces.specs.Pieces.{place, piece}
 use Rattle.pieces.proofs.Splits.{some_piece}
@@ -28,7 +28,7 @@ first_over f line other = ap (joined 32) (sym (first_and_cells line)) ∙ joined
 made_at : (f : List ℕ → List ℕ) (line other : List ℕ) (k : ℕ) → k + 1 < length (words_in other)
     → piece (made_from f line other) (k + 1) ≡ f (piece (words_in other) (k + 1))
 made_at f line other k h =
-    ap (piece (made_from f line other)) next ∙ get_or_map f (cells other) k [] [] (omega (arith, length-drop 1 (words_in other))) ∙ ap f (cell_is other k)
+    ap (piece (made_from f line other)) next ∙ get_or-map f (cells other) k [] [] (omega (arith, length-drop 1 (words_in other))) ∙ ap f (cell_is other k)
   where
     next : k + 1 ≡ suc k
     next = omega arith

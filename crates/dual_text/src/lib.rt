@@ -1,4 +1,6 @@
 // The dual of a sheet, as text.
+#![tactic(auto)]
+
 ghost use Rattle.dual_text.specs.Texts.{IsWrittenBack, NamesGood, IsReadBack};
 ghost use Rattle.dual_text.specs.Dual.{AsLong, DualRead, Twice};
 

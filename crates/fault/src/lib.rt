@@ -1,4 +1,6 @@
 // Everything that is refused: one enum, whose every case has a number, a layer and a place.
+#![tactic(auto)]
+
 ghost use Rattle.std.specs.Prelude.{◌≡◌, Some};
 ghost use Rattle.fault.specs.Refusals.{refusal, place_text, fault_text, ToldApart};
 

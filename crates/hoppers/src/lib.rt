@@ -1,4 +1,6 @@
 // Hoppers that are filled, emptied and poured into one another: a search space.
+#![tactic(auto)]
+
 ghost use Rattle.hoppers.specs.Moves.{EffectsAlways, ForbiddenAlways, Numbered};
 ghost use Rattle.hoppers.specs.Setting.{NodesAsTold};
 

@@ -1,4 +1,6 @@
 // The pieces of a text between separators.
+#![tactic(auto)]
+
 ghost use Rattle.std.specs.Prelude.{◌≡◌, ℕ, ◌+◌, ◌<◌, ◌≤◌, length, drop};
 ghost use Rattle.pieces.specs.Pieces.{pieces, place, piece, Ends};
 

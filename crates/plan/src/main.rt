@@ -1,4 +1,6 @@
 // Reads a sheet from standard input, and prints a shortest plan of its task.
+#![tactic(auto)]
+
 use answer::report;
 use std::io::{Read, Write};
 

@@ -1,4 +1,6 @@
 // Reads a hopper problem from standard input, and prints a shortest list of moves that gets the level wanted.
+#![tactic(auto)]
+
 mod input;
 
 use anyhow::anyhow;

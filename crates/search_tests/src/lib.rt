@@ -1,4 +1,6 @@
 // Runs of the search and of the closed-set check, over hoppers of 3 and 5.
+#![tactic(auto)]
+
 #[cfg(test)]
 mod tests {
     use bfs::{Link, Outcome, find_plan};

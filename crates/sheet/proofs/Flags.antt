@@ -1,6 +1,6 @@
 -- Sets of facts as flags in their order.
 use Rattle.std.proofs.Common.{◌≡◌, ℕ, zero, suc, ◌+◌, ◌*◌, ◌^◌, ◌<◌, ◌≤◌, Bool, true, false, cond, ◌||◌, eqb, ◌⊎◌, List, [], ◌∷◌, map, length, get_or, take, drop, Decides, sym, refl, ap, ◌∙◌, subst, inl, inr, pow-suc, arith}
-use Rattle.std.proofs.lemmas.List.{get_or_map, get_or-drop, length-drop, length-map, length-take-le, take_all}
+use Rattle.std.proofs.lemmas.List.{get_or-map, get_or-drop, length-drop, length-map, length-take-le, take_all}
 use Rattle.std.proofs.lemmas.Bool.{or_cases, or_left, or_right, eqb-true, eq-eqb}
 use Rattle.std.specs.List.{ContainsAt as Has}
 use Rattle.strips.specs.declared.action.Action.{Action}
@@ -56,7 +56,7 @@ sofar_more x line i w b before after h p q t e =
 
     is : get_or flags i false ≡ holds x (piece (words_in line) (i + 1))
     is =
-        get_or_map (holds x) (cells line) i [] false (omega (arith, length-drop 1 (words_in line)))
+        get_or-map (holds x) (cells line) i [] false (omega (arith, length-drop 1 (words_in line)))
         ∙ ap (holds x) (get_or-drop 1 (words_in line) i [] ∙ ap (piece (words_in line)) (omega arith))
 
 -- all words

@@ -1,18 +1,18 @@
 -- Names that come again.
 use Rattle.std.proofs.Common.{◌≡◌, ℕ, ◌+◌, ◌<◌, ◌≤◌, List, [], map, length, get_or, take, set, Some, None, Option, sym, ap, ◌∙◌, arith, Bor, below_more}
-use Rattle.std.proofs.lemmas.List.{get_or_map, get_or-set_same, get_or-set_other, get_or-take, length-map, length-take-le}
+use Rattle.std.proofs.lemmas.List.{get_or-map, get_or-set_same, get_or-set_other, get_or-take, length-map, length-take-le}
 use Rattle.sheet.specs.Reading.{Apart}
 use Rattle.sheet.specs.Repeats.{name_in, FirstRepeat, OfNames}
 
 -- equal slices are equal names
 pub names_equal : (names : List (Bor (List ℕ))) (i j : ℕ) (d : Bor (List ℕ)) → i < length names → j < length names
     → (get_or names i d).now ≡ (get_or names j d).now → name_in (map (λ n. n.now) names) i ≡ name_in (map (λ n. n.now) names) j
-names_equal names i j d h g e = get_or_map _ names i d _ h ∙ e ∙ sym (get_or_map _ names j d _ g)
+names_equal names i j d h g e = get_or-map _ names i d _ h ∙ e ∙ sym (get_or-map _ names j d _ g)
 
 -- and equal names are equal slices
 pub slices_equal : (names : List (Bor (List ℕ))) (i j : ℕ) (d : Bor (List ℕ)) → i < length names → j < length names
     → name_in (map (λ n. n.now) names) i ≡ name_in (map (λ n. n.now) names) j → (get_or names i d).now ≡ (get_or names j d).now
-slices_equal names i j d h g e = sym (get_or_map _ names i d _ h) ∙ e ∙ get_or_map _ names j d _ g
+slices_equal names i j d h g e = sym (get_or-map _ names i d _ h) ∙ e ∙ get_or-map _ names j d _ g
 
 -- one name more that no earlier one equals
 pub apart_more : (name : ℕ → List ℕ) (n : ℕ) → Apart name n → ((i : ℕ) → i < n → name i ≡ name n → ⊥) → Apart name (n + 1)
@@ -44,7 +44,7 @@ found name refs n r h f s = moved r s
     long = length-map (take n refs) (λ n. n.now) ∙ length-take-le n refs h
 
     is : (j : ℕ) → j < n → name_in shown j ≡ name j
-    is j l = get_or_map (λ n. n.now) (take n refs) j nowhere [] (omega (arith, length-take-le n refs h)) ∙ ap (λ x. x.now) (get_or-take n refs j nowhere l) ∙ f j nowhere l
+    is j l = get_or-map (λ n. n.now) (take n refs) j nowhere [] (omega (arith, length-take-le n refs h)) ∙ ap (λ x. x.now) (get_or-take n refs j nowhere l) ∙ f j nowhere l
 
     apart : (k : ℕ) → k ≤ n → Apart (name_in shown) k → Apart name k
     apart k l a i j lt g e = a i j lt g (is i (omega arith) ∙ e ∙ sym (is j (omega arith)))

@@ -1,4 +1,6 @@
 // The sheet: a task as text.
+#![tactic(auto)]
+
 ghost use Rattle.sheet.specs.Exactness.{AlwaysOnce, AlwaysPlaced, AlwaysTask};
 
 mod actions;

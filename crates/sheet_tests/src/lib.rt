@@ -1,4 +1,6 @@
 // Runs of reading sheets, of their dual texts, and of the answer as text.
+#![tactic(auto)]
+
 #[cfg(test)]
 mod tests {
     use answer::report;

@@ -1,4 +1,6 @@
 // What a search space is: six questions, whose answers are those of one meaning.
+#![tactic(auto)]
+
 ghost use Rattle.std.specs.Prelude.{◌≡◌, true, false, length};
 ghost use Rattle.space.specs.Meaning.{Meaning, Lawful};
 ghost use Rattle.space.specs.Paths.{CountedAsTold};

@@ -1,7 +1,7 @@
 -- The mirror of a space, and the dual task.
 use Rattle.std.proofs.Common.{◌≡◌, ℕ, zero, suc, ◌^◌, ◌<◌, ◌≤◌, Bool, true, false, ◌&&◌, ltb, List, [], ◌∷◌, map, reverse, length, Some, None, Option, sym, refl, ap, ◌∙◌, ap₂, arith}
 use mathlib.Core.List.{reverse-reverse}
-use lib.ListN.{length-map, get_or_map, length-reverse}
+use lib.ListN.{length-map, get_or-map, length-reverse}
 use lib.Bits.{or_lt}
 use Rattle.std.proofs.lemmas.Bool.Decides.{nat_tests}
 use Rattle.space.specs.Meaning.{Meaning, Lawful}
@@ -72,7 +72,7 @@ backwards h f ks =
 
 -- ---- the dual task
 dual_at : (h : Task) (k : ℕ) → action_at (dual h) k ≡ dual_action (action_at h k)
-dual_at h k = get_or_map dual_action h.actions k idle
+dual_at h k = get_or-map dual_action h.actions k idle
 
 dual_allowed : (n : ℕ) (p : Action) (w : ℕ) → p.deletes < 2 ^ n → consistent p (complement n w) ≡ allowed (dual_action p) w
 dual_allowed n p w hd = both _ _ there back

@@ -1,4 +1,6 @@
 // Planning over facts: sets of facts as words, actions, tasks, and the spaces in which a plan is searched.
+#![tactic(auto)]
+
 ghost use Rattle.strips.specs.Duality.{Backwards, DualFine, Duality, Forwards, Involution, Mirrored, Ordered, SameLength};
 ghost use Rattle.strips.specs.Sets.{ByMembership};
 

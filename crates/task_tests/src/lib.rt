@@ -1,4 +1,6 @@
 // Runs of planning and checking over a task: grind, wash and pack a lot of pods.
+#![tactic(auto)]
+
 #[cfg(test)]
 mod tests {
     use bfs::{Link, Outcome};

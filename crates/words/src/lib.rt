@@ -1,4 +1,6 @@
 // The words of a sheet: names, marks, and which word a column allows.
+#![tactic(auto)]
+
 mod kind;
 mod mark;
 mod name;

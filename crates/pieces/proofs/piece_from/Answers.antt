@@ -13,8 +13,8 @@ returns-then-at-text c = record {
 pub returns : goal.returns
 returns c =
     let rest = drop c.args.at c.args.text.now in
-    let long : c.piece-end.result - c.args.at ≡ length (piece (pieces c.args.sep rest) 0) = omega (arith, c.piece-end.ensures.exact (omega arith)) in
+    let long : c.piece_end.result - c.args.at ≡ length (piece (pieces c.args.sep rest) 0) = omega (arith, c.piece_end.ensures.exact (omega arith)) in
     record {
       from = ap (λ (n : ℕ). take n rest) long ∙ first_piece c.args.sep rest;
-      is = c.piece-end.ensures.is;
+      is = c.piece_end.ensures.is;
     }

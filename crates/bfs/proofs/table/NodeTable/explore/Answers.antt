@@ -34,20 +34,20 @@ returns-in-Some g c = record {
       );
 }
 
-pub returns-then-not-expand-layer : goal.returns-then-not-expand-layer
-returns-then-not-expand-layer g c = record {
-  same = c.expand-layer.ensures.same ∙ c.loop-first.invariant.0 ∙ c.push.ensures.same;
-  also = c.expand-layer.ensures.also ∙ c.loop-first.invariant.1 ∙ c.push.ensures.also;
-  grown = grown_then _ _ _ _ (grown_then _ _ _ _ (grown_push _ _ _ _ _ c.requires.room (search rules) c.push.ensures.rows c.push.ensures.links c.push.ensures.capacity c.push.ensures.used) c.loop-first.invariant.2) c.expand-layer.ensures.grown;
-  ended = c.if-not-expand-layer.ensures.turned.full refl (next_layer _ _ _ c.loop-first.invariant.3 (c.in-default.ensures.missed refl));
+pub returns-then-not-expand_layer : goal.returns-then-not-expand_layer
+returns-then-not-expand_layer g c = record {
+  same = c.expand_layer.ensures.same ∙ c.loop-first.invariant.0 ∙ c.push.ensures.same;
+  also = c.expand_layer.ensures.also ∙ c.loop-first.invariant.1 ∙ c.push.ensures.also;
+  grown = grown_then _ _ _ _ (grown_then _ _ _ _ (grown_push _ _ _ _ _ c.requires.room (search rules) c.push.ensures.rows c.push.ensures.links c.push.ensures.capacity c.push.ensures.used) c.loop-first.invariant.2) c.expand_layer.ensures.grown;
+  ended = c.if-not-expand_layer.ensures.turned.full refl (next_layer _ _ _ c.loop-first.invariant.3 (c.in_default.ensures.missed refl));
 }
 
 pub loop-first-preserved : goal.loop-first-preserved
 loop-first-preserved g c = (
-  c.expand-layer.ensures.same ∙ c.loop-first.invariant.0,
-  c.expand-layer.ensures.also ∙ c.loop-first.invariant.1,
-  grown_then _ _ _ _ c.loop-first.invariant.2 c.expand-layer.ensures.grown,
-  c.if-not-expand-layer.ensures.turned.made refl (next_layer _ _ _ c.loop-first.invariant.3 (c.in-default.ensures.missed refl)),
+  c.expand_layer.ensures.same ∙ c.loop-first.invariant.0,
+  c.expand_layer.ensures.also ∙ c.loop-first.invariant.1,
+  grown_then _ _ _ _ c.loop-first.invariant.2 c.expand_layer.ensures.grown,
+  c.if-not-expand_layer.ensures.turned.made refl (next_layer _ _ _ c.loop-first.invariant.3 (c.in_default.ensures.missed refl)),
 )
 
 pub returns : goal.returns

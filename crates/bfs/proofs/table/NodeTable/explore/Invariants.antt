@@ -4,8 +4,8 @@ use Rattle.bfs.proofs.table.NodeTable.explore.Given as goal
 
 abbrev pub invariant-loop-first : goal.invariant-loop-first
 invariant-loop-first g l =
-    (l.self.rows.name ≡ l.initial.self.rows.name)
-    × (l.self.links.name ≡ l.initial.self.links.name)
+    (l.self.rows.ghost_name ≡ l.initial.self.rows.ghost_name)
+    × (l.self.links.ghost_name ≡ l.initial.self.links.ghost_name)
     × Grown (g.S.Space.meaning l.space) l.initial.self l.self
     × At (g.S.Space.meaning l.space) l.self l.first l.first 0
 
