@@ -16,7 +16,7 @@ loop-i-preserved g c h j l =
     let m = g.S.Space.meaning c.args.space.now in
     let rows = c.args.rows.now in
     below_more (λ i. Keeps m rows (node_at m rows i) j) c.loop-i.i (λ i l. c.loop-i.invariant i j l)
-    (at_row m rows (λ a. Keeps m rows a j) c.loop-i.i _ c.loop-i-test.true c.index-rows-i.is (c.in-default.ensures j)) h l
+    (at_row m rows (λ a. Keeps m rows a j) c.loop-i.i _ c.loop-i-test.true c.index-rows-i.is (c.in_default.ensures j)) h l
 
 pub returns : goal.returns
 returns g c i j h = c.loop-i.invariant i j (omega (arith, h))

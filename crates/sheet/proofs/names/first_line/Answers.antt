@@ -4,5 +4,5 @@ use Rattle.sheet.proofs.names.first_line.Goals as goal
 
 pub returns : goal.returns
 returns c =
-    let z : c.piece-end.result - 0 ≡ c.piece-end.result = omega arith in
-    rw z at (c.piece-end.ensures.is 0 (some_piece 10 c.args.text.now) refl)
+    let z : c.piece_end.result - 0 ≡ c.piece_end.result = omega arith in
+    rw z at (c.piece_end.ensures.is 0 (some_piece 10 c.args.text.now) refl)

@@ -7,4 +7,4 @@ loop-k-preserved c = (search rules, search rules, filled_more _ _ _ _ (omega ari
 
 pub returns : goal.returns
 returns c =
-    found _ c.loop-k.names c.args.actions _ (omega (arith, c.loop-k.invariant.0, c.requires.1)) (λ j d h. c.loop-k.invariant.2 j d (omega arith)) c.first-repeat.ensures
+    found _ c.loop-k.names c.args.actions _ (omega (arith, c.loop-k.invariant.0, c.requires.1)) (λ j d h. c.loop-k.invariant.2 j d (omega arith)) c.first_repeat.ensures

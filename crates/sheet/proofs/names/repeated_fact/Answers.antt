@@ -6,5 +6,5 @@ use Rattle.sheet.proofs.names.repeated_fact.Goals as goal
 
 pub returns : goal.returns
 returns c =
-    subst (λ (line : List ℕ). OfNames (λ i. piece (words_in line) (i + 1)) c.args.facts c.repeated-word.result) c.first-line.ensures
-    c.repeated-word.ensures
+    subst (λ (line : List ℕ). OfNames (λ i. piece (words_in line) (i + 1)) c.args.facts c.repeated_word.result) c.first_line.ensures
+    c.repeated_word.ensures

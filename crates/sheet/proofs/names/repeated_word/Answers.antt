@@ -7,4 +7,4 @@ loop-i-init c = (refl, search rules, λ j d h. absurd (omega arith))
 
 pub returns : goal.returns
 returns c =
-    found _ c.loop-i.names c.args.words _ (omega (arith, c.loop-i.invariant.0, c.requires.1)) (λ j d h. c.loop-i.invariant.2 j d (omega arith)) c.first-repeat.ensures
+    found _ c.loop-i.names c.args.words _ (omega (arith, c.loop-i.invariant.0, c.requires.1)) (λ j d h. c.loop-i.invariant.2 j d (omega arith)) c.first_repeat.ensures

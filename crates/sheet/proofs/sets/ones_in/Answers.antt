@@ -6,8 +6,8 @@ pub loop-i-preserved : goal.loop-i-preserved
 loop-i-preserved c = (
   search rules,
   sofar_more 49 c.args.line.now c.loop-i.i _ _ _ _ (omega (arith, c.columns-i-end.ensures.inside, c.loop-i-test.true)) c.loop-i.invariant.1
-      (c.piece-end-end.ensures.is (c.loop-i.i + 1) (omega (arith, c.columns-i-end.ensures.inside, c.loop-i-test.true)) c.loop-i.invariant.0) c.has-letter.ensures
-      c.with-fact-ones.ensures,
+      (c.piece_end-end.ensures.is (c.loop-i.i + 1) (omega (arith, c.columns-i-end.ensures.inside, c.loop-i-test.true)) c.loop-i.invariant.0) c.has_letter.ensures
+      c.with_fact-ones.ensures,
 )
 
 pub returns : goal.returns

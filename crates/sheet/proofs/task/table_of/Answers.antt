@@ -7,10 +7,10 @@ use Rattle.sheet.proofs.task.table_of.Goals as goal
 pub loop-k-init : goal.loop-k-init
 loop-k-init c = (refl, λ text st. (st, refl))
 
-pub returns-in-default : goal.returns-in-default
-returns-in-default c text of =
+pub returns-in_default : goal.returns-in_default
+returns-in_default c text of =
     let i = c.loop-k.invariant.1 text (c.actions-actions.ensures text of) in
-    let last = c.in-default.ensures text c.loop-k.k i.0 in
+    let last = c.in_default.ensures text c.loop-k.k i.0 in
     rw last.0 at i.1
 
 pub loop-k-preserved : goal.loop-k-preserved

@@ -7,11 +7,11 @@ pub returns : goal.returns
 returns c text k st =
     let more : k < action_count text = omega (arith, st.left) in (
       more,
-      action_read _ text k _ _ _ st.same c.piece-from-line.ensures.is c.action-in.ensures st.accepted more st.here,
+      action_read _ text k _ _ _ st.same c.piece_from-line.ensures.is c.action_in.ensures st.accepted more st.here,
       record {
         same = st.same;
         accepted = st.accepted;
-        here = next_line _ text k _ _ st.same c.piece-end.ensures more st.here;
+        here = next_line _ text k _ _ st.same c.piece_end.ensures more st.here;
         left = omega (arith, st.left);
       },
     )
