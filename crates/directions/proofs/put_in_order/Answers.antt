@@ -7,9 +7,9 @@ use Rattle.directions.proofs.put_in_order.Goals as goal
 pub returns-in-1 : goal.returns-in-1
 returns-in-1 c = record {
   plan = λ s.
-      ordered_plan (task_in c.args.task.now) c.args.task.now.ok c.args.direction (take c.args.n c.args.plan.now) (take c.args.n c.turn-round.new.plan)
-      (c.turn-round.ensures.moves ∙ sym (order_turned c.args.direction (take c.args.n c.args.plan.now) (omega arith) (omega arith))) s;
-  past = c.turn-round.ensures.past;
+      ordered_plan (task_in c.args.task.now) c.args.task.now.ok c.args.direction (take c.args.n c.args.plan.now) (take c.args.n c.turn_round.new.plan)
+      (c.turn_round.ensures.moves ∙ sym (order_turned c.args.direction (take c.args.n c.args.plan.now) (omega arith) (omega arith))) s;
+  past = c.turn_round.ensures.past;
 }
 
 pub returns-then-direction-lt1 : goal.returns-then-direction-lt1
