@@ -7,7 +7,7 @@ use Rattle.answer.proofs.written.push_names.Goals as goal
 pub loop-k-preserved : goal.loop-k-preserved
 loop-k-preserved c text of range =
     names_more text c.args.plan.now (vec_items c.args.out.now) _ _ c.loop-k.k-index c.loop-k-test.true (c.loop-k.invariant text of range)
-    (c.in-ok-push-name.ensures text of (range c.loop-k.k-index c.loop-k-test.true))
+    (c.in_ok-push_name.ensures text of (range c.loop-k.k-index c.loop-k-test.true))
 
 pub returns : goal.returns
 returns c text of range =

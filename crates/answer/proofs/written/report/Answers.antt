@@ -5,11 +5,11 @@ use Rattle.answer.proofs.written.report.Goals as goal
 
 pub returns : goal.returns
 returns c =
-    let last = c.plan-text-answer.new in
+    let last = c.plan_text-answer.new in
     let after = buffers last.nodes last.links last.plan in
     record {
-      answer = c.plan-text-answer.result;
+      answer = c.plan_text-answer.result;
       after = after;
-      planned = c.plan-text-answer.ensures;
-      is = c.in-ok-written.ensures (planned_nameable c.args.text.now (fresh 2048) after c.plan-text-answer.result c.plan-text-answer.ensures);
+      planned = c.plan_text-answer.ensures;
+      is = c.in_ok-written.ensures (planned_nameable c.args.text.now (fresh 2048) after c.plan_text-answer.result c.plan_text-answer.ensures);
     }
