@@ -30,7 +30,7 @@ fn turn_flag(other: &[u8], off: u8, word: &mut [u8])
         → word.new ≡ (if holds 49 other.now then off ∷ [] else codes "1") }
     ensures size { length word.new ≡ length word.old }
 {
-    word.fill(if other == b"1" { off } else { b'1' });
+    word.fill(if other == b"1".as_slice() { off } else { b'1' });
 }
 
 // Writes for each fact what the other line has not; the part is a copy of the line.

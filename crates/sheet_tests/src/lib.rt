@@ -158,12 +158,12 @@ mod tests {
         let Some(ground) = sheet.fact_name(2) else {
             return Err(Fail::new("no such fact"));
         };
-        assert!(rt; ground.bytes == b"ground");
+        assert!(rt; ground.bytes == b"ground".as_slice());
         assert_eq!(rt; ground.offset, 16);
         let Some(pack) = sheet.action_name(2) else {
             return Err(Fail::new("no such action"));
         };
-        assert!(rt; pack.bytes == b"pack");
+        assert!(rt; pack.bytes == b"pack".as_slice());
         assert_eq!(rt; pack.offset, 84);
         assert!(rt; sheet.fact_name(4).is_none());
         assert!(rt; sheet.action_name(3).is_none());

@@ -10,7 +10,7 @@ loop-init c =
     let line = c.args.line.now in
     let other = c.args.other.now in (
       search rules,
-      λ g. c.piece-end-beside.ensures.next 0 (some_piece 32 other) refl,
+      λ g. c.piece_end-beside.ensures.next 0 (some_piece 32 other) refl,
       λ e g. e ∙ sym (first_over (flag_from c.args.off) line other),
     )
 
@@ -20,11 +20,11 @@ loop-preserved c =
     let other = c.args.other.now in
     let k = c.loop.counter in
     let inside : k + 1 < length (words_in line) = omega (arith, c.separators-end.ensures.is) in
-    let next = c.piece-end-end.ensures.next (k + 1) inside c.loop.invariant.0 in (
+    let next = c.piece_end-end.ensures.next (k + 1) inside c.loop.invariant.0 in (
       next,
-      λ g. c.piece-end-beside-in-loop.ensures.next (k + 1) (omega (arith, g.even)) (c.loop.invariant.1 g),
+      λ g. c.piece_end-beside-in-loop.ensures.next (k + 1) (omega (arith, g.even)) (c.loop.invariant.1 g),
       λ e g. flags_more c.args.off line other k _ _ _ _ _ g inside c.loop.invariant.0 next (c.loop.invariant.2 e g)
-          (c.piece-from.ensures.is (k + 1) (omega (arith, g.even)) (c.loop.invariant.1 g)) c.turn-flag.ensures.turned,
+          (c.piece_from.ensures.is (k + 1) (omega (arith, g.even)) (c.loop.invariant.1 g)) c.turn_flag.ensures.turned,
     )
 
 pub returns : goal.returns

@@ -19,7 +19,7 @@ returns-in-Now c =
     let kind = c.in-Now.ensures in
     record {
       turned = λ a h l e.
-          flags_turned 48 l (c.line-at.ensures (omega (arith, a.sized.lines))) (now_flags text a row h kind) (c.turn-flags.ensures.turned e) ∙ of_kind text row _ kind;
+          flags_turned 48 l (c.line_at.ensures (omega (arith, a.sized.lines))) (now_flags text a row h kind) (c.turn_flags.ensures.turned e) ∙ of_kind text row _ kind;
       size = search rules;
     }
 
@@ -30,7 +30,7 @@ returns-in-Wish c =
     let kind = c.in-Wish.ensures in
     record {
       turned = λ a h l e.
-          flags_turned 45 l (c.line-at-in-Wish.ensures (omega (arith, a.sized.lines))) (wish_flags text a row h kind) (c.turn-flags-in-Wish.ensures.turned e)
+          flags_turned 45 l (c.line_at-in-Wish.ensures (omega (arith, a.sized.lines))) (wish_flags text a row h kind) (c.turn_flags-in-Wish.ensures.turned e)
           ∙ of_kind text row _ kind;
       size = search rules;
     }
@@ -42,6 +42,6 @@ returns-in-Action c =
     let kind = c.in-Action.ensures in
     record {
       turned = λ a h l e.
-          c.turn-marks.ensures.turned e (subst GoodMarks (sym l) (action_good text a row h kind)) ∙ ap (λ line. joined 32 (turned_marks line)) l ∙ of_kind text row _ kind;
+          c.turn_marks.ensures.turned e (subst GoodMarks (sym l) (action_good text a row h kind)) ∙ ap (λ line. joined 32 (turned_marks line)) l ∙ of_kind text row _ kind;
       size = search rules;
     }

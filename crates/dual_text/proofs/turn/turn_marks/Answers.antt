@@ -13,9 +13,9 @@ loop-preserved c =
     let line = c.args.line.now in
     let k = c.loop.counter in
     let inside : k + 1 < length (words_in line) = omega (arith, c.separators-end.ensures.is) in
-    let next = c.piece-end-end.ensures.next (k + 1) inside c.loop.invariant.0 in (
+    let next = c.piece_end-end.ensures.next (k + 1) inside c.loop.invariant.0 in (
       next,
-      λ e good. marks_more line k _ _ _ _ good inside c.loop.invariant.0 next (c.loop.invariant.1 e good) c.turn-mark.ensures.dual,
+      λ e good. marks_more line k _ _ _ _ good inside c.loop.invariant.0 next (c.loop.invariant.1 e good) c.turn_mark.ensures.dual,
     )
 
 pub returns : goal.returns

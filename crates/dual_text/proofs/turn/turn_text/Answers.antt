@@ -14,11 +14,11 @@ loop-row-preserved c =
     let r = c.loop-row.row in
     let inside : r < length (lines text) = omega arith in
     let row : r < line_count text = omega arith in
-    let next = c.piece-end-end.ensures.next r inside c.loop-row.invariant.0 in
-    let line = c.piece-end-end.ensures.is r inside c.loop-row.invariant.0 in (
+    let next = c.piece_end-end.ensures.next r inside c.loop-row.invariant.0 in
+    let line = c.piece_end-end.ensures.is r inside c.loop-row.invariant.0 in (
       next,
       λ a. over_more 10 (lines text) (turned_lines text) r _ _ _ _ (lines_alike text a) inside c.loop-row.invariant.0 next (c.loop-row.invariant.1 a)
-          (λ e. c.turn-line.ensures.turned a row line (e ∙ sym line) ∙ sym (turned_line text r row)),
+          (λ e. c.turn_line.ensures.turned a row line (e ∙ sym line) ∙ sym (turned_line text r row)),
     )
 
 pub returns : goal.returns
