@@ -1,7 +1,7 @@
 -- A plan is shorter than the rows that hold its nodes.
 use Rattle.std.proofs.Common.{◌≡◌, ℕ, zero, suc, ◌<◌, ◌≤◌, true, ap, subst, arith}
 use Rattle.space.specs.Meaning.{Meaning}
-use Rattle.space.specs.Paths.{solves, Leads, Nearest}
+use Rattle.space.specs.Paths.{Leads, Nearest}
 use Rattle.space.specs.Rows.{Held, Count}
 use Rattle.space.proofs.Paths.{solves_leads, leads_solves}
 use Rattle.bfs.specs.declared.table.Link.{Link}

@@ -1,5 +1,5 @@
 -- The pieces of a text between separators, and where each begins. Assumes nothing.
-use Rattle.std.specs.Prelude.{◌≡◌, ℕ, ◌+◌, ◌-◌, ◌<◌, ◌≤◌, cond, List, [], ◌∷◌, length, take, drop, ◌==◌, slice_index_or, slice_range}
+use Rattle.std.specs.Prelude.{◌≡◌, ℕ, ◌+◌, ◌<◌, ◌≤◌, cond, List, [], ◌∷◌, length, take, drop, ◌==◌, slice_index_or, slice_range}
 
 -- the byte in front of the first piece
 abbrev pub onto : ℕ → List (List ℕ) → List (List ℕ)

@@ -1,5 +1,5 @@
 -- Sets of facts as flags in their order.
-use Rattle.std.proofs.Common.{◌≡◌, ℕ, zero, suc, ◌+◌, ◌*◌, ◌^◌, ◌<◌, ◌≤◌, Bool, true, false, cond, ◌||◌, eqb, ◌⊎◌, List, [], ◌∷◌, map, length, get_or, take, drop, Decides, sym, refl, ap, ◌∙◌, subst, inl, inr, pow-suc, arith}
+use Rattle.std.proofs.Common.{◌≡◌, ℕ, zero, suc, ◌+◌, ◌*◌, ◌^◌, ◌<◌, ◌≤◌, Bool, true, false, cond, ◌||◌, eqb, ◌⊎◌, List, [], ◌∷◌, map, length, get_or, take, Decides, sym, refl, ap, ◌∙◌, subst, inl, inr, pow-suc, arith}
 use Rattle.std.proofs.lemmas.List.{get_or-map, get_or-drop, length-drop, length-map, length-take-le, take_all}
 use Rattle.std.proofs.lemmas.Bool.{or_cases, or_left, or_right, eqb-true, eq-eqb}
 use Rattle.std.specs.List.{ContainsAt as Has}

@@ -1,4 +1,4 @@
-use Rattle.std.proofs.Common.{◌-◌, rules}
+use Rattle.std.proofs.Common.{rules}
 use Rattle.space.proofs.Fronts.{front_held, held_front}
 use Rattle.bfs.proofs.table.NodeTable.has.Goals as goal
 
