@@ -7,8 +7,9 @@ use anyhow::anyhow;
 use bfs::{Link, Outcome, find_plan};
 use fault::Fault;
 use hoppers::{Hoppers, Levels};
-use input::{Problem, read};
+use input::{BadInput, Problem, read};
 use std::io;
+use std::process::ExitCode;
 
 // Searches, and prints the answer and the plan.
 fn solve(rt: &HostRuntime, problem: Problem) -> anyhow::Result<()> {
@@ -67,12 +68,23 @@ fn print_refusal(rt: &HostRuntime, fault: Fault) -> anyhow::Result<()> {
     Ok(())
 }
 
-fn run(rt: &HostRuntime) -> anyhow::Result<()> {
-    let text = io::read_to_string(rt.alloc(), rt.stdin())?;
-    let problem = read(rt.alloc(), text.as_str())?;
-    solve(rt, problem)
+// Says what was wrong with the problem, whole: an `anyhow::Error` keeps 120 bytes, and one of these messages is longer.
+fn print_bad_input(rt: &HostRuntime, bad: BadInput) -> anyhow::Result<ExitCode> {
+    eprintln!(rt; "Error: {bad}")?;
+    Ok(ExitCode::FAILURE)
 }
 
-fn main(rt: HostRuntime) -> anyhow::Result<()> {
+fn run(rt: &HostRuntime) -> anyhow::Result<ExitCode> {
+    let text = io::read_to_string(rt.alloc(), rt.stdin())?;
+    match read(rt.alloc(), text.as_str()) {
+        Ok(problem) => {
+            solve(rt, problem)?;
+            Ok(ExitCode::SUCCESS)
+        }
+        Err(bad) => print_bad_input(rt, bad),
+    }
+}
+
+fn main(rt: HostRuntime) -> anyhow::Result<ExitCode> {
     run(&rt)
 }

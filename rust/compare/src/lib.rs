@@ -8,7 +8,7 @@
 //! ```
 //!
 //! `PLAN_PROGRAM` is the path of the program `plan`; without it, the path is
-//! `../../target/bin/plan`, seen from this crate.
+//! `../../crates/plan/out/plan`, seen from this crate.
 
 #![deny(missing_docs)]
 #![forbid(unsafe_code)]

@@ -25,7 +25,7 @@ pub struct Tally {
 
 impl Tally {
     pub fn new() -> Self {
-        let path = env::var_os("PLAN_PROGRAM").unwrap_or_else(|| "../../target/bin/plan".into());
+        let path = env::var_os("PLAN_PROGRAM").unwrap_or_else(|| "../../crates/plan/out/plan".into());
         let program = Path::new(env!("CARGO_MANIFEST_DIR")).join(path);
         assert!(
             program.is_file(),
