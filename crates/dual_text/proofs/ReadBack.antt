@@ -48,7 +48,7 @@ apart_same f g n e a i j h k q = a i j h k (sym (e i (omega arith)) ∙ q ∙ e 
 accepted_made : (text : List ℕ) (rows : List (List (List ℕ))) (n k : ℕ) → Shows text rows → length rows ≡ 3 + k → 0 < n → n ≤ 64 → k ≤ 256
     → ((r : ℕ) → r < length rows → Row (kind_of r) n (get_or rows r []))
     → Apart (λ i. piece (get_or rows 0 []) (i + 1)) n → Apart (λ i. piece (get_or rows (i + 3) []) 0) k → Accepted text
-accepted_made text rows n k s e low high few made fact-apart action-apart = record {
+accepted_made text rows n k s e low high few made fact_apart action_apart = record {
   lined = s.lined;
   sized = record {
     lines = omega (arith, s.counted);
@@ -59,10 +59,10 @@ accepted_made text rows n k s e low high few made fact-apart action-apart = reco
   right = λ r l j m. rights r (omega (arith, s.counted)) j m;
   facts_apart =
       subst (Apart (fact_name text)) facts_counted
-      (apart_same (fact_name text) _ n (λ i l. ap (λ (z : List (List ℕ)). piece z (i + 1)) (s.words 0 (omega arith))) fact-apart);
+      (apart_same (fact_name text) _ n (λ i l. ap (λ (z : List (List ℕ)). piece z (i + 1)) (s.words 0 (omega arith))) fact_apart);
   actions_apart =
       subst (Apart (action_name text)) actions_counted
-      (apart_same (action_name text) _ k (λ i l. ap (λ (z : List (List ℕ)). piece z 0) (s.words (i + 3) (omega arith))) action-apart);
+      (apart_same (action_name text) _ k (λ i l. ap (λ (z : List (List ℕ)). piece z 0) (s.words (i + 3) (omega arith))) action_apart);
 }
   where
     wide : (r : ℕ) → r < length rows → word_count text r ≡ suc n
