@@ -4,6 +4,7 @@
 ghost use Rattle.std.specs.Prelude.{◌≡◌, Some};
 ghost use Rattle.fault.specs.Refusals.{refusal, place_text, fault_text, ToldApart};
 
+use std::error::Error;
 use std::fmt;
 
 // The part of the planner that refuses.
@@ -158,6 +159,8 @@ impl fmt::Display for Fault {
         write!(f, "{number} {place}")
     }
 }
+
+impl Error for Fault {}
 
 // Two faults with the same number, layer and place are the same fault.
 pub fn faults_are_told_apart()
