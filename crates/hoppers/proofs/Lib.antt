@@ -1,4 +1,4 @@
+pub mod Zips
 mod Numbering
 mod Laws
-mod Transfers
 mod Effects

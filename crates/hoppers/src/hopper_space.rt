@@ -10,7 +10,7 @@ use fault::Fault;
 use space::Space;
 
 // The most hoppers.
-const MAX_HOPPERS: usize = 8;
+const MAX_HOPPERS: u8 = 8;
 
 // The largest capacity.
 const MAX_CAPACITY: u8 = 200;
@@ -21,17 +21,13 @@ fn in_range(capacities: &[u8], levels: &[u8]) -> bool
     ensures good { result ≡ true → GoodLevels capacities.now levels.now (length capacities.now) }
     ensures bad { result ≡ false → GoodLevels capacities.now levels.now (length capacities.now) → ⊥ }
 {
-    for i in 0..capacities.len() {
-        let capacity = capacities[i];
-        if capacity == 0 || capacity > MAX_CAPACITY || levels[i] > capacity {
-            return false;
-        }
-    }
-    true
+    capacities.iter().zip(levels).all(|(capacity, level)| (1..=MAX_CAPACITY).contains(capacity)
+        && level <= capacity)
 }
 
 impl Hoppers {
     // Hoppers of these capacities, at these levels, with a level wanted in one of them.
+    #[tactic(auto, using(crate::proofs::Laws::set_fine))]
     pub fn new(
         capacities: &[u8],
         levels: &[u8],
@@ -40,15 +36,17 @@ impl Hoppers {
     ) -> Result<Hoppers, Fault>
         ensures { SetUp capacities.now levels.now hopper wanted result }
     {
-        let count = capacities.len();
-        if count == 0 || count > MAX_HOPPERS || levels.len() != count || hopper >= count {
+        let Ok(count @ 1..=MAX_HOPPERS) = u8::try_from(capacities.len()) else {
             return Err(Fault::BadHoppers);
-        }
-        if !in_range(capacities, levels) {
+        };
+        if levels.len() != capacities.len()
+            || hopper >= capacities.len()
+            || !in_range(capacities, levels)
+        {
             return Err(Fault::BadHoppers);
         }
         Ok(Hoppers {
-            count: count as u8,
+            count,
             capacities: Levels::padded(capacities),
             start: Levels::padded(levels),
             hopper,
@@ -73,30 +71,28 @@ impl Space for Hoppers {
         node.within(self.capacities)
     }
 
+    #[tactic(auto, using(crate::proofs::Laws::lawful))]
     fn start(&self) -> Levels {
         self.start
     }
 
     fn count(&self) -> u16 {
-        let h = self.count as u16;
+        let h = u16::from(self.count);
         2 * h + h * h
     }
 
     fn is_target(&self, node: Levels) -> bool {
-        node.within(self.capacities) && node.level(self.hopper) == self.wanted
+        self.is_node(node) && node.level(self.hopper) == self.wanted
     }
 
     fn next(&self, node: Levels, by: u16) -> Option<Levels> {
-        if !node.within(self.capacities) {
+        if !self.is_node(node) {
             return None;
         }
-        match self.move_numbered(by) {
-            Some(step) => step.made(self.capacities, node),
-            None => None,
-        }
+        self.move_numbered(by)?.made(self.capacities, node)
     }
 
     fn same(&self, a: Levels, b: Levels) -> bool {
-        a.same(b)
+        a == b
     }
 }

@@ -19,6 +19,7 @@ pub fn moves_are_numbered()
 {}
 
 // Filling makes a hopper full, emptying makes it empty, and pouring goes on until the one is empty or the other full, with nothing lost.
+#[tactic(auto, using(crate::proofs::Effects::effects))]
 pub fn moves_do_as_told()
     ensures { EffectsAlways }
 {}

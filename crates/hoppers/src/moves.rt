@@ -1,6 +1,6 @@
 // The moves of hoppers.
 ghost use Rattle.std.specs.Prelude.{◌≡◌, Some};
-ghost use Rattle.hoppers.specs.Moves.{move_of, made, move_text, pourable, transferred};
+ghost use Rattle.hoppers.specs.Moves.{move_of, made, move_text};
 
 use crate::levels::Levels;
 use std::fmt;
@@ -17,32 +17,32 @@ pub enum Move {
 }
 
 impl Move {
-    // The move of a number, where there are so many hoppers.
+    // The move of a number, where there are so many hoppers. The numbers stand in rows of that many: the first row fills, the second
+    // empties, and each further row pours one hopper into those in order.
+    #[tactic(auto, using(crate::proofs::Numbering::pour_by_row))]
     pub fn numbered(count: u8, number: u16) -> Option<Move>
         ensures { result ≡ move_of count number }
     {
-        let h = count as usize;
-        let k = number as usize;
-        if k < h {
-            return Some(Move::Fill(k));
+        let h = usize::from(count);
+        let k = usize::from(number);
+        let row = k.checked_div(h)?;
+        let i = k % h;
+        match row {
+            0 => Some(Move::Fill(i)),
+            1 => Some(Move::Empty(i)),
+            _ => (row < h + 2).then_some(Move::Pour(row - 2, i)),
         }
-        if k < 2 * h {
-            return Some(Move::Empty(k - h));
-        }
-        if h == 0 || k >= 2 * h + h * h {
-            return None;
-        }
-        Some(Move::Pour((k - 2 * h) / h, (k - 2 * h) % h))
     }
 
     // The levels after the move, or none where it is forbidden.
     pub fn made(self, capacities: Levels, levels: Levels) -> Option<Levels>
         ensures { result ≡ made capacities levels self }
     {
+        let hoppers = Filled { capacities, levels };
         match self {
-            Move::Fill(i) => fill(capacities, levels, i),
-            Move::Empty(i) => empty(levels, i),
-            Move::Pour(i, j) => pour(capacities, levels, i, j),
+            Move::Fill(i) => hoppers.fill(i),
+            Move::Empty(i) => hoppers.empty(i),
+            Move::Pour(i, j) => hoppers.pour(i, j),
         }
     }
 }
@@ -60,50 +60,37 @@ impl fmt::Display for Move {
     }
 }
 
-// A hopper is filled, unless it is full.
-fn fill(capacities: Levels, levels: Levels, i: usize) -> Option<Levels>
-    ensures { result ≡ made capacities levels (Move.Fill i) }
-{
-    if levels.level(i) >= capacities.level(i) {
-        return None;
+// Hoppers of some capacities, filled to some levels.
+#[derive(Clone, Copy)]
+struct Filled {
+    capacities: Levels,
+    levels: Levels,
+}
+
+impl Filled {
+    // A hopper is filled, unless it is full.
+    fn fill(self, i: usize) -> Option<Levels>
+        ensures { result ≡ made self.capacities self.levels (Move.Fill i) }
+    {
+        let full = self.capacities.level(i);
+        (self.levels.level(i) < full).then_some(self.levels.put(i, full))
     }
-    Some(levels.put(i, capacities.level(i)))
-}
 
-// A hopper is emptied, unless it is empty.
-fn empty(levels: Levels, i: usize) -> Option<Levels>
-    ensures { result ≡ made levels levels (Move.Empty i) }
-{
-    if levels.level(i) == 0 {
-        return None;
+    // A hopper is emptied, unless it is empty.
+    fn empty(self, i: usize) -> Option<Levels>
+        ensures { result ≡ made self.capacities self.levels (Move.Empty i) }
+    {
+        (self.levels.level(i) > 0).then_some(self.levels.put(i, 0))
     }
-    Some(levels.put(i, 0))
-}
 
-// Whether hopper i can be poured into j: they are two, i is not empty, and j is not full.
-fn can_pour(capacities: Levels, levels: Levels, i: usize, j: usize) -> bool
-    ensures { result ≡ pourable capacities levels i j }
-{
-    i != j && levels.level(i) > 0 && levels.level(j) < capacities.level(j)
-}
-
-// The levels once all of hopper i, or what j has room for, is poured into j.
-fn transfer(capacities: Levels, levels: Levels, i: usize, j: usize) -> Levels
-    ensures { result ≡ transferred capacities levels i j }
-{
-    let have = levels.level(i);
-    let held = levels.level(j);
-    let room = capacities.level(j).saturating_sub(held);
-    let poured = have.min(room);
-    levels.put(i, have - poured).put(j, held + poured)
-}
-
-// Hopper i is poured into j, where that is allowed.
-fn pour(capacities: Levels, levels: Levels, i: usize, j: usize) -> Option<Levels>
-    ensures { result ≡ made capacities levels (Move.Pour i j) }
-{
-    if !can_pour(capacities, levels, i, j) {
-        return None;
+    // Hopper i is poured into j, until i is empty or j full, where they are two, i is not empty, and j is not full.
+    fn pour(self, i: usize, j: usize) -> Option<Levels>
+        ensures { result ≡ made self.capacities self.levels (Move.Pour i j) }
+    {
+        let have = self.levels.level(i);
+        let held = self.levels.level(j);
+        let room = self.capacities.level(j).saturating_sub(held);
+        let poured = have.min(room);
+        (i != j && poured > 0).then_some(self.levels.put(i, have - poured).put(j, held + poured))
     }
-    Some(transfer(capacities, levels, i, j))
 }
