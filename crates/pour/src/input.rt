@@ -1,9 +1,8 @@
 // Reads a hopper problem from text.
 use bfs::MAX_ROWS;
-use std::alloc::{AllocError, AllocFailed, Global};
-use std::error::Error;
-use std::fmt;
+use std::alloc::{AllocError, Global};
 use std::str::SplitWhitespace;
+use thiserror::Error;
 
 // The rows that a search may fill where the problem does not say.
 const USUAL_ROWS: usize = 2_048;
@@ -19,38 +18,14 @@ pub struct Problem {
 }
 
 // What was expected of which line, counted from 1, or that memory ran out.
-#[derive(Debug, Drop)]
+#[derive(Debug, Drop, Error)]
 pub enum BadInput {
+    #[error("line {0}: expected {1}")]
     Line(usize, &'static str),
+    #[error("the problem lacks a line: expected {0}")]
     Missing(&'static str),
-    Memory,
-}
-
-impl fmt::Display for BadInput {
-    fn fmt<W: fmt::Write>(&self, f: &mut fmt::Formatter<W>) -> fmt::Result {
-        match *self {
-            BadInput::Line(line, expected) => write!(f, "line {line}: expected {expected}"),
-            BadInput::Missing(expected) => write!(
-                f,
-                "the problem lacks a line: expected {expected}"
-            ),
-            BadInput::Memory => write!(f, "out of memory"),
-        }
-    }
-}
-
-impl Error for BadInput {}
-
-impl From<AllocError> for BadInput {
-    fn from(_error: AllocError) -> BadInput {
-        BadInput::Memory
-    }
-}
-
-impl<T: Drop> From<AllocFailed<T>> for BadInput {
-    fn from(_error: AllocFailed<T>) -> BadInput {
-        BadInput::Memory
-    }
+    #[error("out of memory")]
+    Memory(#[from(alloc)] AllocError),
 }
 
 const CAPACITIES: &str = "'capacities' once, with a number from 0 to 255 for each hopper";
@@ -65,7 +40,7 @@ const ROWS: &str = "'rows' at most once, with a number up to 65536";
 const ANY: &str = "'capacities', 'levels', 'want' or 'rows'";
 
 // What has been read so far.
-#[derive(Drop)]
+#[derive(Default, Drop)]
 struct Draft {
     capacities: Option<Vec<u8>>,
     levels: Option<Vec<u8>>,
@@ -77,111 +52,72 @@ impl Draft {
     // Takes in the line of this number.
     fn take(&mut self, heap: Global, number: usize, line: &str) -> Result<(), BadInput> {
         let mut words = line.split_whitespace();
-        match words.next() {
-            None => Ok(()),
-            Some("capacities") => take_numbers(
-                &mut self.capacities,
-                heap,
-                number,
-                words,
+        let (taken, expected) = match words.next() {
+            None => return Ok(()),
+            Some("capacities") => (
+                set_once(&mut self.capacities, numbers(heap, words)?),
                 CAPACITIES,
             ),
-            Some("levels") => take_numbers(&mut self.levels, heap, number, words, LEVELS),
-            Some("want") => self.take_want(number, words),
-            Some("rows") => self.take_rows(number, words),
-            Some(_) => Err(BadInput::Line(number, ANY)),
-        }
-    }
-
-    fn take_want(&mut self, number: usize, mut words: SplitWhitespace<'_>) -> Result<(), BadInput> {
-        let wrong = Err(BadInput::Line(number, WANT));
-        if self.want.is_some() {
-            return wrong;
-        }
-        let (Some(level), Some(hopper), None) = (words.next(), words.next(), words.next()) else {
-            return wrong;
+            Some("levels") => (set_once(&mut self.levels, numbers(heap, words)?), LEVELS),
+            Some("want") => (set_once(&mut self.want, want(words)), WANT),
+            Some("rows") => (set_once(&mut self.rows, rows(words)), ROWS),
+            Some(_) => (None, ANY),
         };
-        let (Ok(level), Ok(hopper)) = (level.parse::<u8>(), hopper.parse::<usize>()) else {
-            return wrong;
-        };
-        self.want = Some((level, hopper));
-        Ok(())
-    }
-
-    fn take_rows(&mut self, number: usize, mut words: SplitWhitespace<'_>) -> Result<(), BadInput> {
-        let wrong = Err(BadInput::Line(number, ROWS));
-        if self.rows.is_some() {
-            return wrong;
-        }
-        let (Some(rows), None) = (words.next(), words.next()) else {
-            return wrong;
-        };
-        match rows.parse::<usize>() {
-            Ok(rows) if rows <= MAX_ROWS => {
-                self.rows = Some(rows);
-                Ok(())
-            }
-            _ => wrong,
-        }
+        taken.ok_or(BadInput::Line(number, expected))
     }
 
     // The problem, where no line is lacking.
     fn finish(self) -> Result<Problem, BadInput> {
-        let Draft {
-            capacities,
-            levels,
-            want,
-            rows,
-        } = self;
-        let Some(capacities) = capacities else {
-            return Err(BadInput::Missing(CAPACITIES));
-        };
-        let Some(levels) = levels else {
-            return Err(BadInput::Missing(LEVELS));
-        };
-        let Some((wanted, hopper)) = want else {
-            return Err(BadInput::Missing(WANT));
-        };
+        let capacities = self.capacities.ok_or(BadInput::Missing(CAPACITIES))?;
+        let levels = self.levels.ok_or(BadInput::Missing(LEVELS))?;
+        let (wanted, hopper) = self.want.ok_or(BadInput::Missing(WANT))?;
         Ok(Problem {
             capacities,
             levels,
             hopper,
             wanted,
-            rows: rows.unwrap_or(USUAL_ROWS),
+            rows: self.rows.unwrap_or(USUAL_ROWS),
         })
     }
 }
 
-// Takes in the numbers of a line, where there are none yet.
-fn take_numbers(
-    numbers: &mut Option<Vec<u8>>,
-    heap: Global,
-    line: usize,
-    words: SplitWhitespace<'_>,
-    expected: &'static str,
-) -> Result<(), BadInput> {
-    if numbers.is_some() {
-        return Err(BadInput::Line(line, expected));
+// Sets what a line gives, where the line gives it rightly and no line gave it before.
+fn set_once<T: Drop>(place: &mut Option<T>, given: Option<T>) -> Option<()> {
+    if place.is_some() {
+        return None;
     }
-    let mut all = Vec::new(heap);
+    *place = Some(given?);
+    Some(())
+}
+
+// The numbers of a line, where each word is one.
+fn numbers(heap: Global, words: SplitWhitespace<'_>) -> Result<Option<Vec<u8>>, AllocError> {
+    let mut numbers = Vec::new(heap);
     for word in words {
-        let Ok(n) = word.parse::<u8>() else {
-            return Err(BadInput::Line(line, expected));
+        let Ok(number) = word.parse() else {
+            return Ok(None);
         };
-        all.push(n)?;
+        numbers.push(number)?;
     }
-    *numbers = Some(all);
-    Ok(())
+    Ok(Some(numbers))
+}
+
+// The level wanted and the number of its hopper, where the words are just these.
+fn want(mut words: SplitWhitespace<'_>) -> Option<(u8, usize)> {
+    let level = words.next()?.parse().ok()?;
+    let hopper = words.next()?.parse().ok()?;
+    words.next().is_none().then_some((level, hopper))
+}
+
+// The count of rows, where it is the one word and no larger than a search allows.
+fn rows(mut words: SplitWhitespace<'_>) -> Option<usize> {
+    let rows = words.next()?.parse().ok()?;
+    (rows <= MAX_ROWS && words.next().is_none()).then_some(rows)
 }
 
 // The problem that a text holds, or what was expected of its first wrong line.
 pub(crate) fn read(heap: Global, text: &str) -> Result<Problem, BadInput> {
-    let mut draft = Draft {
-        capacities: None,
-        levels: None,
-        want: None,
-        rows: None,
-    };
+    let mut draft = Draft::default();
     for (i, line) in text.lines().enumerate() {
         draft.take(heap, i.saturating_add(1), line)?;
     }

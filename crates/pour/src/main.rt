@@ -8,44 +8,48 @@ use bfs::{Link, Outcome, find_plan};
 use fault::Fault;
 use hoppers::{Hoppers, Levels};
 use input::{BadInput, Problem, read};
+use std::alloc::{AllocError, Global};
 use std::io;
 use std::process::ExitCode;
+use thiserror::Error;
 
-// Searches, and prints the answer and the plan.
-fn solve(rt: &HostRuntime, problem: Problem) -> anyhow::Result<()> {
-    println!(rt; "answer length rows")?;
-    match Hoppers::new(
-        problem.capacities.as_slice(),
-        problem.levels.as_slice(),
-        problem.hopper,
-        problem.wanted,
-    ) {
-        Ok(hoppers) => search_and_print(rt, &hoppers, problem.rows),
-        Err(fault) => print_refusal(rt, fault),
-    }
+// Why there is no answer: the problem is refused, or memory ran out.
+#[derive(Debug, Drop, Error)]
+enum Stop {
+    #[error("refused {0}")]
+    Refused(#[from] Fault),
+    #[error(transparent)]
+    Memory(#[from(alloc)] AllocError),
 }
 
-fn search_and_print(rt: &HostRuntime, hoppers: &Hoppers, rows: usize) -> anyhow::Result<()> {
-    let heap = rt.alloc();
-    let mut nodes = vec![in heap; Levels::padded(&[]); rows]?;
-    let mut links = vec![in heap; Link::ORIGIN; rows]?;
-    let mut plan = vec![in heap; 0u16; rows]?;
-    match find_plan(
-        hoppers,
-        nodes.as_mut_slice(),
-        links.as_mut_slice(),
-        plan.as_mut_slice(),
-    ) {
-        Ok(Outcome::Plan((length, used))) => {
+// The hoppers of a problem, what the search answers, and the numbers of its plan's moves.
+fn search(heap: Global, problem: &Problem) -> Result<(Hoppers, Outcome, Vec<u16>), Stop> {
+    let hoppers = Hoppers::new(
+        &problem.capacities,
+        &problem.levels,
+        problem.hopper,
+        problem.wanted,
+    )?;
+    let mut nodes = vec![in heap; Levels::padded(&[]); problem.rows]?;
+    let mut links = vec![in heap; Link::ORIGIN; problem.rows]?;
+    let mut plan = vec![in heap; 0u16; problem.rows]?;
+    let outcome = find_plan(&hoppers, &mut nodes, &mut links, &mut plan)?;
+    Ok((hoppers, outcome, plan))
+}
+
+// Searches, and prints the answer and the plan.
+fn solve(rt: &HostRuntime, problem: &Problem) -> anyhow::Result<()> {
+    println!(rt; "answer length rows")?;
+    match search(rt.alloc(), problem) {
+        Ok((hoppers, Outcome::Plan((length, used)), plan)) => {
             println!(rt; "plan {length} {used}")?;
-            print_moves(rt, hoppers, plan.as_slice(), length)
+            print_moves(rt, &hoppers, &plan, length)?;
         }
-        Ok(Outcome::NoPlan(used)) => {
-            println!(rt; "none 0 {used}")?;
-            Ok(())
-        }
-        Err(fault) => print_refusal(rt, fault),
+        Ok((_, Outcome::NoPlan(used), _)) => println!(rt; "none 0 {used}")?,
+        Err(Stop::Refused(fault)) => println!(rt; "refused {fault}")?,
+        Err(stop) => return Err(stop.into()),
     }
+    Ok(())
 }
 
 fn print_moves(
@@ -55,16 +59,11 @@ fn print_moves(
     length: usize,
 ) -> anyhow::Result<()> {
     for number in plan.iter().take(length) {
-        let Some(step) = hoppers.move_numbered(*number) else {
-            return Err(anyhow!("the plan holds a number that is no move"));
-        };
+        let step = hoppers
+            .move_numbered(*number)
+            .ok_or_else(|| { anyhow!("the plan holds a number that is no move") })?;
         println!(rt; "{step}")?;
     }
-    Ok(())
-}
-
-fn print_refusal(rt: &HostRuntime, fault: Fault) -> anyhow::Result<()> {
-    println!(rt; "refused {fault}")?;
     Ok(())
 }
 
@@ -78,7 +77,7 @@ fn run(rt: &HostRuntime) -> anyhow::Result<ExitCode> {
     let text = io::read_to_string(rt.alloc(), rt.stdin())?;
     match read(rt.alloc(), text.as_str()) {
         Ok(problem) => {
-            solve(rt, problem)?;
+            solve(rt, &problem)?;
             Ok(ExitCode::SUCCESS)
         }
         Err(bad) => print_bad_input(rt, bad),
