@@ -22,7 +22,7 @@ enum Stop {
     Memory(#[from(alloc)] AllocError),
 }
 
-// The hoppers of a problem, what the search answers, and the numbers of its plan's moves.
+// The hoppers of a problem, what the search answers, and the numbers of the moves of its plan, if it finds one.
 fn search(heap: Global, problem: &Problem) -> Result<(Hoppers, Outcome, Vec<u16>), Stop> {
     let hoppers = Hoppers::new(
         &problem.capacities,
@@ -34,6 +34,9 @@ fn search(heap: Global, problem: &Problem) -> Result<(Hoppers, Outcome, Vec<u16>
     let mut links = vec![in heap; Link::ORIGIN; problem.rows]?;
     let mut plan = vec![in heap; 0u16; problem.rows]?;
     let outcome = find_plan(&hoppers, &mut nodes, &mut links, &mut plan)?;
+    if let Outcome::Plan((length, _)) = outcome {
+        plan.truncate(length);
+    }
     Ok((hoppers, outcome, plan))
 }
 
@@ -43,25 +46,20 @@ fn solve(rt: &HostRuntime, problem: &Problem) -> anyhow::Result<()> {
     match search(rt.alloc(), problem) {
         Ok((hoppers, Outcome::Plan((length, used)), plan)) => {
             println!(rt; "plan {length} {used}")?;
-            print_moves(rt, &hoppers, &plan, length)?;
+            print_moves(rt, &hoppers, &plan)?;
         }
         Ok((_, Outcome::NoPlan(used), _)) => println!(rt; "none 0 {used}")?,
-        Err(Stop::Refused(fault)) => println!(rt; "refused {fault}")?,
+        Err(refused @ Stop::Refused(_)) => println!(rt; "{refused}")?,
         Err(stop) => return Err(stop.into()),
     }
     Ok(())
 }
 
-fn print_moves(
-    rt: &HostRuntime,
-    hoppers: &Hoppers,
-    plan: &[u16],
-    length: usize,
-) -> anyhow::Result<()> {
-    for number in plan.iter().take(length) {
+fn print_moves(rt: &HostRuntime, hoppers: &Hoppers, plan: &[u16]) -> anyhow::Result<()> {
+    for number in plan {
         let step = hoppers
             .move_numbered(*number)
-            .ok_or_else(|| { anyhow!("the plan holds a number that is no move") })?;
+            .ok_or_else(|| anyhow!("the plan holds a number that is no move"))?;
         println!(rt; "{step}")?;
     }
     Ok(())
