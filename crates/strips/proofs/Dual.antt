@@ -4,11 +4,12 @@ use mathlib.Core.List.{reverse-reverse}
 use lib.ListN.{length-map, get_or-map, length-reverse}
 use lib.Bits.{or_lt}
 use Rattle.std.proofs.lemmas.Bool.Decides.{nat_tests}
+use Rattle.std.specs.Bool.{then_some}
 use Rattle.space.specs.Meaning.{Meaning, Lawful}
 use Rattle.space.specs.Paths.{onward, targeted, solves, Nearest}
 use Rattle.strips.specs.Sets.{has, within, complement}
 use Rattle.strips.specs.Actions.{allowed, progress, consistent, regress, dual_action}
-use Rattle.strips.specs.Tasks.{Task, idle, action_at, of_sets, given, fine, fine_action, fine_actions, forward, backward, mirror, turned, only}
+use Rattle.strips.specs.Tasks.{Task, idle, action_at, of_sets, fine, fine_action, fine_actions, forward, backward, mirror, turned, only}
 use Rattle.strips.specs.Duality.{dual, carries, is_plan, space_in, Forwards, Backwards, Duality, Involution, DualFine, Mirrored, Ordered, in_order, SameLength}
 use Rattle.strips.specs.declared.action.Action.{Action}
 use Rattle.strips.proofs.Words.{within_at, within_of, digits, equal, has_past}
@@ -105,28 +106,28 @@ dual_target n s w hs hw = both _ _ (go s w) (go w s)
 action_fine : (h : Task) → fine h ≡ true → (k : ℕ) → k < length h.actions → fine_action h.facts (action_at h k) ≡ true
 action_fine h f k hk = let fs : fine_actions h.facts h.actions ≡ true = grind arith in fine_at h.facts h.actions k fs hk
 
-turned_given : (n : ℕ) (c : Bool) (x : ℕ) → turned n (given c x) ≡ given c (complement n x)
-turned_given n true x = refl
-turned_given n false x = refl
+turned_then : (n : ℕ) (c : Bool) (x : ℕ) → turned n (then_some c x) ≡ then_some c (complement n x)
+turned_then n true x = refl
+turned_then n false x = refl
 
-only_given : (a b : Bool) (x : ℕ) → only a (given b x) ≡ given (a && b) x
-only_given true b x = refl
-only_given false b x = refl
+only_then : (a b : Bool) (x : ℕ) → only a (then_some b x) ≡ then_some (a && b) x
+only_then true b x = refl
+only_then false b x = refl
 
 -- the mirror over a space of sets is a space of sets
 mirror_sets : (n start count : ℕ) (target : ℕ → Bool) (may : ℕ → ℕ → Bool) (to : ℕ → ℕ → ℕ) (w k : ℕ)
-    → (mirror n (of_sets n start count target may to)).next w k ≡ given (ltb w (2 ^ n) && (ltb k count && may (complement n w) k)) (complement n (to (complement n w) k))
+    → (mirror n (of_sets n start count target may to)).next w k ≡ then_some (ltb w (2 ^ n) && (ltb k count && may (complement n w) k)) (complement n (to (complement n w) k))
 mirror_sets n start count target may to w k =
     let l : complement n w < 2 ^ n = complement_below n w in
     let e : (ltb (complement n w) (2 ^ n) && (ltb k count && may (complement n w) k)) ≡ (ltb k count && may (complement n w) k) = grind (arith, nat_tests) in
-    ap (only (ltb w (2 ^ n))) (turned_given n (ltb (complement n w) (2 ^ n) && (ltb k count && may (complement n w) k)) (to (complement n w) k))
-    ∙ only_given (ltb w (2 ^ n)) (ltb (complement n w) (2 ^ n) && (ltb k count && may (complement n w) k)) (complement n (to (complement n w) k))
-    ∙ ap (λ (c : Bool). given (ltb w (2 ^ n) && c) (complement n (to (complement n w) k))) e
+    ap (only (ltb w (2 ^ n))) (turned_then n (ltb (complement n w) (2 ^ n) && (ltb k count && may (complement n w) k)) (to (complement n w) k))
+    ∙ only_then (ltb w (2 ^ n)) (ltb (complement n w) (2 ^ n) && (ltb k count && may (complement n w) k)) (complement n (to (complement n w) k))
+    ∙ ap (λ (c : Bool). then_some (ltb w (2 ^ n) && c) (complement n (to (complement n w) k))) e
 
-same_given : (a b c d : Bool) (x y : ℕ) → (a ≡ true → b ≡ true → c ≡ d) → (a ≡ true → b ≡ true → x ≡ y) → given (a && (b && c)) x ≡ given (a && (b && d)) y
-same_given true true c d x y f g = ap₂ given (f refl refl) (g refl refl)
-same_given true false c d x y f g = refl
-same_given false b c d x y f g = refl
+same_then : (a b c d : Bool) (x y : ℕ) → (a ≡ true → b ≡ true → c ≡ d) → (a ≡ true → b ≡ true → x ≡ y) → then_some (a && (b && c)) x ≡ then_some (a && (b && d)) y
+same_then true true c d x y f g = ap₂ then_some (f refl refl) (g refl refl)
+same_then true false c d x y f g = refl
+same_then false b c d x y f g = refl
 
 -- two spaces of sets, one the mirror of the other
 mirror_is : (n start start' count count' : ℕ) (target target' : ℕ → Bool) (may may' : ℕ → ℕ → Bool) (to to' : ℕ → ℕ → ℕ)
@@ -150,9 +151,9 @@ mirror_is n start start' count count' target target' may may' to to' es ec et em
     nxt : (w k : ℕ) → (mirror n (of_sets n start count target may to)).next w k ≡ (of_sets n start' count' target' may' to').next w k
     nxt w k =
         mirror_sets n start count target may to w k
-        ∙ same_given (ltb w (2 ^ n)) (ltb k count) (may (complement n w) k) (may' w k) (complement n (to (complement n w) k)) (to' w k)
+        ∙ same_then (ltb w (2 ^ n)) (ltb k count) (may (complement n w) k) (may' w k) (complement n (to (complement n w) k)) (to' w k)
         (λ a b. em w k (grind (arith, nat_tests)) (grind (arith, nat_tests))) (λ a b. eo w k (grind (arith, nat_tests)) (grind (arith, nat_tests)))
-        ∙ ap (λ (c : ℕ). given (ltb w (2 ^ n) && (ltb k c && may' w k)) (to' w k)) ec
+        ∙ ap (λ (c : ℕ). then_some (ltb w (2 ^ n) && (ltb k c && may' w k)) (to' w k)) ec
 
 pub mirrored_backward : (h : Task) → fine h ≡ true → mirror h.facts (backward h) ≡ forward (dual h)
 mirrored_backward h f =

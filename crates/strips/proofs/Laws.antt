@@ -4,16 +4,17 @@ use lib.Bits.{bit_and, bit_or, or_lt}
 use lib.Pow.{ones_lt}
 use Rattle.std.proofs.lemmas.List.{drop_more}
 use Rattle.std.proofs.lemmas.Bool.Decides.{nat_tests}
+use Rattle.std.specs.Bool.{then_some}
 use Rattle.space.specs.Meaning.{Meaning, Lawful}
 use Rattle.strips.specs.Sets.{without, within, complement, full}
 use Rattle.strips.specs.Actions.{allowed, progress, consistent, regress}
-use Rattle.strips.specs.Tasks.{Task, idle, fine_action, fine_actions, fine, given, of_sets, action_at, forward, backward, mirror, turned, only}
+use Rattle.strips.specs.Tasks.{Task, idle, fine_action, fine_actions, fine, of_sets, action_at, forward, backward, mirror, turned, only}
 use Rattle.strips.specs.declared.action.Action.{Action}
 
--- what a given answer says
-pub given_some : (c : Bool) (x b : ℕ) → given c x ≡ Some b → (c ≡ true) × (x ≡ b)
-given_some true x b e = (refl, cc)
-given_some false x b e = let z : ◌≡◌ {A = ℕ} 0 1 = cc in absurd (omega arith)
+-- what an answer says
+pub some_then : (c : Bool) (x b : ℕ) → then_some c x ≡ Some b → (c ≡ true) × (x ≡ b)
+some_then true x b e = (refl, cc)
+some_then false x b e = let z : ◌≡◌ {A = ℕ} 0 1 = cc in absurd (omega arith)
 
 pub sets_lawful : (n start count : ℕ) (target : ℕ → Bool) (may : ℕ → ℕ → Bool) (to : ℕ → ℕ → ℕ)
     → start < 2 ^ n → count ≤ 512 → ((w k : ℕ) → w < 2 ^ n → k < count → to w k < 2 ^ n)
@@ -22,7 +23,7 @@ sets_lawful n start count target may to hs hc ht = record {
   start_node = grind (arith, nat_tests);
   few = hc;
   next_node = λ a b k e.
-      let g = given_some (ltb a (2 ^ n) && (ltb k count && may a k)) (to a k) b e in
+      let g = some_then (ltb a (2 ^ n) && (ltb k count && may a k)) (to a k) b e in
       let la : a < 2 ^ n = grind (arith, nat_tests) in
       let lk : k < count = grind (arith, nat_tests) in
       let lt : to a k < 2 ^ n = ht a k la lk in

@@ -4,21 +4,22 @@ use mathlib.Core.List.{reverse-cons}
 use Rattle.std.proofs.lemmas.Bool.Decides.{nat_tests}
 use Rattle.strips.specs.Sets.{has, within}
 use Rattle.strips.specs.Actions.{allowed, progress, consistent, regress}
+use Rattle.std.specs.Bool.{then_some}
 use Rattle.space.specs.Meaning.{Meaning}
 use Rattle.space.specs.Paths.{onward, targeted}
-use Rattle.strips.specs.Tasks.{Task, action_at, of_sets, given}
+use Rattle.strips.specs.Tasks.{Task, action_at, of_sets}
 use Rattle.strips.specs.declared.action.Action.{Action}
-use Rattle.strips.proofs.Words.{within_at, within_of, disjoint_at, disjoint_of, digits}
+use Rattle.strips.proofs.Words.{within_at, within_of, disjoint_decides, digits}
 
 -- two tests are equal where each is true with the other
 pub both : (x y : Bool) → (x ≡ true → y ≡ true) → (y ≡ true → x ≡ true) → x ≡ y
 both x y f g = grind arith
 
 pub consistent_at : (p : Action) (t i : ℕ) → consistent p t ≡ true → (has t i && has p.deletes i) ≡ false
-consistent_at p t i h = disjoint_at t p.deletes i h
+consistent_at p t i h = (disjoint_decides t p.deletes).0 h i
 
 pub consistent_of : (p : Action) (t : ℕ) → ((i : ℕ) → (has t i && has p.deletes i) ≡ false) → consistent p t ≡ true
-consistent_of p t h = disjoint_of t p.deletes h
+consistent_of p t h = (disjoint_decides t p.deletes).1 h
 
 -- t is met after an allowed step exactly when the step deletes none of t and what t asks before it is met
 pub key : (p : Action) (s t : ℕ) → (allowed p s && within t (progress p s)) ≡ (consistent p t && within (regress p t) s)
@@ -79,13 +80,13 @@ pub sets_run : (n start count : ℕ) (target : ℕ → Bool) (may : ℕ → ℕ 
 sets_run n start count target may to ht a ha [] = grind (arith, nat_tests)
 sets_run n start count target may to ht a ha (k ∷ ks) =
     let e : (ltb a (2 ^ n) && (ltb k count && may a k)) ≡ (ltb k count && may a k) = grind (arith, nat_tests) in
-    ap (λ (c : Bool). targeted m (onward m (given c (to a k)) ks)) e
+    ap (λ (c : Bool). targeted m (onward m (then_some c (to a k)) ks)) e
     ∙ go (ltb k count && may a k) (λ c. let lk : k < count = grind (arith, nat_tests) in sets_run n start count target may to ht (to a k) (ht a k ha lk) ks)
   where
     m : Meaning ℕ
     m = of_sets n start count target may to
 
     go : (c : Bool) → (c ≡ true → targeted m (onward m (Some (to a k)) ks) ≡ run count target may to (to a k) ks)
-        → targeted m (onward m (given c (to a k)) ks) ≡ (c && run count target may to (to a k) ks)
+        → targeted m (onward m (then_some c (to a k)) ks) ≡ (c && run count target may to (to a k) ks)
     go true f = f refl
     go false f = refl

@@ -1,5 +1,5 @@
 -- Sets of facts as numbers: fact i is in a set where the binary digit i is 1. Assumes nothing.
-use Rattle.std.specs.Prelude.{◌≡◌, ℕ, ◌-◌, ◌/◌, ◌%◌, ◌^◌, ◌≤◌, Bool, true, false, not, ◌&&◌, ◌||◌, ◌==◌, bit_and, bit_or, nat_lt}
+use Rattle.std.specs.Prelude.{◌≡◌, ℕ, ◌-◌, ◌/◌, ◌%◌, ◌^◌, ◌≤◌, Bool, Decides, true, false, not, ◌&&◌, ◌||◌, ◌==◌, bit_and, bit_or, nat_lt}
 
 -- whether fact i is in w
 abbrev pub has : ℕ → ℕ → Bool
@@ -25,11 +25,6 @@ within a b = bit_and a b == a
 abbrev pub disjoint : ℕ → ℕ → Bool
 disjoint a b = bit_and a b == 0
 
--- a test is true exactly when a statement holds
-pub record Exactly (r : Bool) (P : Type 0) : Type 0 where
-  pub then : r ≡ true → P
-  pub when : P → r ≡ true
-
 -- every fact of a is in b, one by one
 abbrev pub Within : ℕ → ℕ → Type 0
 Within a b = (i : ℕ) → has a i ≡ true → has b i ≡ true
@@ -40,9 +35,9 @@ pub record ByMembership : Type 0 where
   pub removed : (a b i : ℕ) → has (without a b) i ≡ (has a i && not (has b i))
   pub all : (n i : ℕ) → has (full n) i ≡ nat_lt i n
   pub opposite : (n w i : ℕ) → has (complement n w) i ≡ (nat_lt i n && not (has w i))
-  pub inside : (a b : ℕ) → Exactly (within a b) (Within a b)
-  pub apart : (a b : ℕ) → Exactly (disjoint a b) ((i : ℕ) → (has a i && has b i) ≡ false)
+  pub inside : (a b : ℕ) → Decides (within a b) (Within a b)
+  pub apart : (a b : ℕ) → Decides (disjoint a b) ((i : ℕ) → (has a i && has b i) ≡ false)
   -- a set of n facts is a number below 2 ^ n: it has no fact at or past n
-  pub few : (n w : ℕ) → Exactly (nat_lt w (2 ^ n)) ((i : ℕ) → n ≤ i → has w i ≡ false)
+  pub few : (n w : ℕ) → Decides (nat_lt w (2 ^ n)) ((i : ℕ) → n ≤ i → has w i ≡ false)
   -- sets with the same facts are the same
   pub same : (a b : ℕ) → ((i : ℕ) → has a i ≡ has b i) → a ≡ b

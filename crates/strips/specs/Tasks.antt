@@ -1,5 +1,7 @@
 -- Tasks and their search spaces. Assumes nothing.
-use Rattle.std.specs.Prelude.{ℕ, ◌^◌, Bool, true, false, ◌&&◌, List, [], ◌∷◌, length, Some, None, Option, nat_le, nat_lt, slice_index_or}
+use Rattle.std.specs.Prelude.{ℕ, ◌^◌, Bool, true, false, ◌&&◌, List, length, Some, None, Option, nat_le, nat_lt, slice_index_or}
+use Rattle.std.specs.Bool.{then_some}
+use Rattle.std.specs.List.{list_all}
 use Rattle.space.specs.Meaning.{Meaning}
 use Rattle.strips.specs.Sets.{within, complement}
 use Rattle.strips.specs.Actions.{allowed, progress, consistent, regress}
@@ -21,8 +23,7 @@ abbrev pub fine_action : ℕ → Action → Bool
 fine_action n p = nat_lt p.needs (2 ^ n) && (nat_lt p.adds (2 ^ n) && nat_lt p.deletes (2 ^ n))
 
 abbrev pub fine_actions : ℕ → List Action → Bool
-fine_actions n [] = true
-fine_actions n (p ∷ ps) = fine_action n p && fine_actions n ps
+fine_actions n ps = list_all (fine_action n) ps
 
 -- 1 to 64 facts, at most 256 actions, and no set holds a fact at or past the count
 abbrev pub fine : Task → Bool
@@ -30,24 +31,23 @@ fine h =
     nat_le 1 h.facts && (nat_le h.facts 64 && (nat_le (length h.actions) 256
     && (nat_lt h.state (2 ^ h.facts) && (nat_lt h.goal (2 ^ h.facts) && fine_actions h.facts h.actions))))
 
--- the next node, or None where the move is forbidden
-abbrev pub given : Bool → ℕ → Option ℕ
-given true w = Some w
-given false w = None
-
--- a space whose nodes are the sets of n facts: move k below the count leads from w to `to w k` where `may w k`
+-- a space whose nodes are the sets of n facts: move k below the count leads from w to `to w k` where `may w k`, and else is forbidden
 abbrev pub of_sets : (n start count : ℕ) → (target : ℕ → Bool) → (may : ℕ → ℕ → Bool) → (to : ℕ → ℕ → ℕ) → Meaning ℕ
 of_sets n start count target may to = record {
   node = λ w. nat_lt w (2 ^ n);
   start = start;
   count = count;
   target = λ w. nat_lt w (2 ^ n) && target w;
-  next = λ w k. given (nat_lt w (2 ^ n) && (nat_lt k count && may w k)) (to w k);
+  next = λ w k. then_some (nat_lt w (2 ^ n) && (nat_lt k count && may w k)) (to w k);
 }
 
 -- the action of a number; past the count the one that changes nothing, where no statement looks
 abbrev pub action_at : Task → ℕ → Action
 action_at h k = slice_index_or h.actions k idle
+
+-- the action of a number, where the node is a set of the task's facts and the task has such an action
+abbrev pub action_from : Task → ℕ → ℕ → Option Action
+action_from h w k = then_some (nat_lt w (2 ^ h.facts) && nat_lt k (length h.actions)) (action_at h k)
 
 -- forward: the start is the state, a target holds the goal, a move is an action
 abbrev pub forward : Task → Meaning ℕ

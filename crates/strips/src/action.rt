@@ -1,12 +1,14 @@
 // Actions on sets of facts.
-ghost use Rattle.std.specs.Prelude.{◌≡◌, ℕ, false, not, ◌&&◌, ◌||◌};
+ghost use Rattle.std.specs.Prelude.{◌≡◌, Decides, ℕ, false, not, ◌&&◌, ◌||◌};
+ghost use Rattle.std.specs.Bool.{then_some};
 ghost use Rattle.strips.specs.Actions.{allowed, consistent, dual_action, progress, regress};
-ghost use Rattle.strips.specs.Sets.{Exactly, has, Within};
+ghost use Rattle.strips.specs.Sets.{has, Within};
+ghost use Rattle.strips.specs.Tasks.{fine_action};
 
-use crate::sets::{difference, is_within};
+use crate::sets::{FactCount, difference, is_within};
 
 // What an action needs, adds and deletes.
-#[derive(Clone, Copy, PartialEq, Eq, Debug)]
+#[derive(Clone, Copy, PartialEq, Eq, Debug, Default)]
 pub struct Action {
     pub needs: u64,
     pub adds: u64,
@@ -24,7 +26,7 @@ impl Action {
     // Whether the action is allowed in a state: all that it needs is there.
     pub fn is_allowed(self, state: u64) -> bool
         ensures value { result ≡ allowed self state }
-        ensures facts { Exactly result (Within self.needs state) }
+        ensures facts { Decides result (Within self.needs state) }
     {
         is_within(self.needs, state)
     }
@@ -37,10 +39,17 @@ impl Action {
         difference(state | self.adds, self.deletes)
     }
 
+    // The state after the action, where it is allowed.
+    pub(crate) fn progressed(self, state: u64) -> Option<u64>
+        ensures { result ≡ then_some (allowed self state) (progress self state) }
+    {
+        self.is_allowed(state).then_some(self.after(state))
+    }
+
     // Whether the action may be taken back from a node: it deletes none of its facts.
     pub fn is_consistent(self, node: u64) -> bool
         ensures value { result ≡ consistent self node }
-        ensures facts { Exactly result ((i : ℕ) → (has node i && has self.deletes i) ≡ false) }
+        ensures facts { Decides result ((i : ℕ) → (has node i && has self.deletes i) ≡ false) }
     {
         node & self.deletes == 0
     }
@@ -53,6 +62,13 @@ impl Action {
         difference(node, self.adds) | self.needs
     }
 
+    // The node before the action, where it may be taken back.
+    pub(crate) fn regressed(self, node: u64) -> Option<u64>
+        ensures { result ≡ then_some (consistent self node) (regress self node) }
+    {
+        self.is_consistent(node).then_some(self.before(node))
+    }
+
     // The dual action: it needs what this one deletes, adds the same, and deletes what this one needs.
     pub fn dual(self) -> Action
         ensures { result ≡ dual_action self }
@@ -62,5 +78,12 @@ impl Action {
             adds: self.adds,
             deletes: self.needs,
         }
+    }
+
+    // Whether each of the action's sets has only these facts.
+    pub(crate) fn is_of(self, facts: FactCount) -> bool
+        ensures { result ≡ fine_action facts.n self }
+    {
+        facts.covers(self.needs) && facts.covers(self.adds) && facts.covers(self.deletes)
     }
 }

@@ -5,7 +5,6 @@ ghost use Rattle.strips.specs.Duality.{Backwards, DualFine, Duality, Forwards, I
 ghost use Rattle.strips.specs.Sets.{ByMembership};
 
 mod action;
-mod making;
 mod sets;
 mod spaces;
 mod task;
@@ -14,6 +13,12 @@ pub use action::Action;
 pub use sets::{difference, is_within, lowest};
 pub use spaces::{Backward, FactSpace, Forward, Mirror};
 pub use task::{Task, TaskView};
+
+// The most facts of a task.
+pub const MAX_FACTS: usize = 64;
+
+// The most actions of a task.
+pub const MAX_ACTIONS: usize = 256;
 
 // What the operations on sets mean, by membership of facts.
 pub fn sets_go_by_membership()

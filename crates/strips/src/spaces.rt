@@ -3,7 +3,7 @@ ghost use Rattle.std.specs.Prelude.{◌≡◌, ℕ, ◌^◌, ◌≤◌, nat_lt};
 ghost use Rattle.strips.specs.Tasks.{backward, forward, mirror};
 ghost use Rattle.strips.specs.Views.{task_of};
 
-use crate::sets::{is_of, is_within, opposite};
+use crate::sets::{FactCount, is_within};
 use crate::task::TaskView;
 use space::Space;
 
@@ -31,7 +31,7 @@ impl Space for Forward<'_> {
     ghost meaning = { λ s. forward (task_of s.task) };
 
     fn is_node(&self, node: u64) -> bool {
-        is_of(self.task.facts, node)
+        self.task.facts.covers(node)
     }
 
     fn start(&self) -> u64 {
@@ -43,20 +43,11 @@ impl Space for Forward<'_> {
     }
 
     fn is_target(&self, node: u64) -> bool {
-        is_of(self.task.facts, node) && is_within(self.task.goal, node)
+        self.task.facts.covers(node) && is_within(self.task.goal, node)
     }
 
     fn next(&self, node: u64, by: u16) -> Option<u64> {
-        let i = by as usize;
-        if !is_of(self.task.facts, node) || i >= self.task.actions.len() {
-            return None;
-        }
-        let action = self.task.actions[i];
-        if action.is_allowed(node) {
-            Some(action.after(node))
-        } else {
-            None
-        }
+        self.task.action_from(node, by)?.progressed(node)
     }
 
     fn same(&self, a: u64, b: u64) -> bool {
@@ -70,7 +61,7 @@ impl Space for Backward<'_> {
     ghost meaning = { λ s. backward (task_of s.task) };
 
     fn is_node(&self, node: u64) -> bool {
-        is_of(self.task.facts, node)
+        self.task.facts.covers(node)
     }
 
     fn start(&self) -> u64 {
@@ -82,20 +73,11 @@ impl Space for Backward<'_> {
     }
 
     fn is_target(&self, node: u64) -> bool {
-        is_of(self.task.facts, node) && is_within(node, self.task.state)
+        self.task.facts.covers(node) && is_within(node, self.task.state)
     }
 
     fn next(&self, node: u64, by: u16) -> Option<u64> {
-        let i = by as usize;
-        if !is_of(self.task.facts, node) || i >= self.task.actions.len() {
-            return None;
-        }
-        let action = self.task.actions[i];
-        if action.is_consistent(node) {
-            Some(action.before(node))
-        } else {
-            None
-        }
+        self.task.action_from(node, by)?.regressed(node)
     }
 
     fn same(&self, a: u64, b: u64) -> bool {
@@ -116,18 +98,29 @@ pub trait FactSpace: Space<Node = u64> {
 }
 
 impl FactSpace for Forward<'_> {
-    ghost facts = { λ s. s.task.facts };
+    ghost facts = { λ s. s.task.facts.n };
 
     fn fact_count(&self) -> u8 {
-        self.task.facts
+        self.task.facts.n
     }
 }
 
 impl FactSpace for Backward<'_> {
-    ghost facts = { λ s. s.task.facts };
+    ghost facts = { λ s. s.task.facts.n };
 
     fn fact_count(&self) -> u8 {
-        self.task.facts
+        self.task.facts.n
+    }
+}
+
+impl<S: FactSpace> Mirror<S> {
+    // The count of facts.
+    fn facts(&self) -> FactCount
+        ensures { result.n ≡ S.FactSpace.facts self.now.inner }
+    {
+        FactCount {
+            n: self.inner.fact_count(),
+        }
     }
 }
 
@@ -137,11 +130,11 @@ impl<S: FactSpace> Space for Mirror<S> {
     ghost meaning = { λ s. mirror (S.FactSpace.facts s.inner) (S.Space.meaning s.inner) };
 
     fn is_node(&self, node: u64) -> bool {
-        is_of(self.inner.fact_count(), node)
+        self.facts().covers(node)
     }
 
     fn start(&self) -> u64 {
-        opposite(self.inner.fact_count(), self.inner.start())
+        self.facts().opposite(self.inner.start())
     }
 
     fn count(&self) -> u16 {
@@ -149,19 +142,17 @@ impl<S: FactSpace> Space for Mirror<S> {
     }
 
     fn is_target(&self, node: u64) -> bool {
-        let n = self.inner.fact_count();
-        is_of(n, node) && self.inner.is_target(opposite(n, node))
+        let facts = self.facts();
+        facts.covers(node) && self.inner.is_target(facts.opposite(node))
     }
 
     fn next(&self, node: u64, by: u16) -> Option<u64> {
-        let n = self.inner.fact_count();
-        if !is_of(n, node) {
+        let facts = self.facts();
+        if !facts.covers(node) {
             return None;
         }
-        match self.inner.next(opposite(n, node), by) {
-            Some(next) => Some(opposite(n, next)),
-            None => None,
-        }
+        let next = self.inner.next(facts.opposite(node), by)?;
+        Some(facts.opposite(next))
     }
 
     fn same(&self, a: u64, b: u64) -> bool {

@@ -1,32 +1,106 @@
-// Tasks: the types and what always holds of them. A definition that names a type cannot be cited in the file of the type, so the functions
-// on tasks stand in making and in spaces.
-ghost use Rattle.std.specs.Prelude.{◌≡◌, ◌≤◌, true, length, take};
-ghost use Rattle.strips.specs.Tasks.{fine};
+// Tasks, and their parts as spaces are lent them.
+ghost use Rattle.std.specs.Prelude.{◌≡◌, true};
+ghost use Rattle.strips.specs.Tasks.{fine, fine_actions};
 
+use crate::MAX_ACTIONS;
 use crate::action::Action;
-
-// The most actions of a task.
-pub(crate) const MAX_ACTIONS: usize = 256;
-
-// The count of facts, the actions in their order, the facts that hold now, and those that are to hold.
-#[derive(Drop)]
-pub struct Task {
-    pub(crate) facts: u8,
-    pub(crate) count: u16,
-    pub(crate) actions: [Action; MAX_ACTIONS],
-    pub(crate) state: u64,
-    pub(crate) goal: u64,
-    ghost size: { length actions ≡ 256 },
-    ghost few: { count ≤ 256 },
-    ghost ok: { fine (record { facts = facts; actions = take count actions; state = state; goal = goal }) ≡ true },
-}
+use crate::sets::FactCount;
+use arrayvec::ArrayVec;
 
 // A task whose actions are lent.
 #[derive(Clone, Copy)]
 pub struct TaskView<'a> {
-    pub(crate) facts: u8,
+    pub(crate) facts: FactCount,
     pub(crate) actions: &'a [Action],
     pub(crate) state: u64,
     pub(crate) goal: u64,
-    ghost ok: { fine (record { facts = facts; actions = actions.now; state = state; goal = goal }) ≡ true },
+    ghost ok: { fine (record { facts = facts.n; actions = actions.now; state = state; goal = goal }) ≡ true },
+}
+
+// The count of facts, the actions in their order, the facts that hold now, and those that are to hold.
+#[derive(Drop)]
+pub struct Task {
+    facts: FactCount,
+    actions: ArrayVec<Action, MAX_ACTIONS>,
+    state: u64,
+    goal: u64,
+    ghost ok: { fine (record { facts = facts.n; actions = actions.items; state = state; goal = goal }) ≡ true },
+}
+
+// Whether the sets of all actions have only these facts.
+fn are_of(facts: FactCount, actions: &[Action]) -> bool
+    ensures { result ≡ fine_actions facts.n actions.now }
+{
+    actions.iter().all(|action| action.is_of(facts))
+}
+
+// Whether there are at most 256 actions, and no set has a fact at or past the count.
+fn is_task(facts: FactCount, actions: &[Action], state: u64, goal: u64) -> bool
+    ensures { result ≡ fine (record { facts = facts.n; actions = actions.now; state = state; goal = goal }) }
+{
+    actions.len() <= MAX_ACTIONS
+        && facts.covers(state)
+        && facts.covers(goal)
+        && are_of(facts, actions)
+}
+
+impl<'a> TaskView<'a> {
+    ghost use Rattle.std.specs.Prelude.{ℕ};
+    ghost use Rattle.strips.specs.Views.{Shown, task_of};
+    ghost use Rattle.strips.specs.Tasks.{action_from};
+
+    // A task of 1 to 64 facts and at most 256 actions, none of whose sets has a fact at or past the count; or none where these are no task.
+    pub fn new(facts: u8, actions: &'a [Action], state: u64, goal: u64) -> Option<TaskView<'a>>
+        ensures { Shown (record { facts = facts; actions = actions.now; state = state; goal = goal }) result }
+    {
+        let facts = FactCount::new(facts)?;
+        if !is_task(facts, actions, state, goal) {
+            return None;
+        }
+        Some(TaskView {
+            facts,
+            actions,
+            state,
+            goal,
+        })
+    }
+
+    // The action of a number, where the node is a set of the task's facts and the task has such an action.
+    pub(crate) fn action_from(&self, node: u64, by: u16) -> Option<Action>
+        ensures { result ≡ action_from (task_of self.now) node by }
+    {
+        if !self.facts.covers(node) {
+            return None;
+        }
+        self.actions.get(usize::from(by)).copied()
+    }
+}
+
+impl Task {
+    ghost use Rattle.strips.specs.Views.{task_in, Made, task_of};
+
+    // A task of 1 to 64 facts and at most 256 actions, none of whose sets has a fact at or past the count; or none where these are no task.
+    pub fn new(facts: u8, actions: &[Action], state: u64, goal: u64) -> Option<Task>
+        ensures { Made (record { facts = facts; actions = actions.now; state = state; goal = goal }) result }
+    {
+        let view = TaskView::new(facts, actions, state, goal)?;
+        Some(Task {
+            facts: view.facts,
+            actions: ArrayVec::try_from(actions).ok()?,
+            state,
+            goal,
+        })
+    }
+
+    // The task, with its actions lent.
+    pub fn view(&self) -> TaskView<'_>
+        ensures { task_of result ≡ task_in self.now }
+    {
+        TaskView {
+            facts: self.facts,
+            actions: &self.actions,
+            state: self.state,
+            goal: self.goal,
+        }
+    }
 }
