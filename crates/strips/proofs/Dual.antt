@@ -1,20 +1,21 @@
 -- The mirror of a space, and the dual task.
-use Rattle.std.proofs.Common.{◌≡◌, ℕ, zero, suc, ◌^◌, ◌<◌, ◌≤◌, Bool, true, false, ◌&&◌, ltb, List, [], ◌∷◌, map, reverse, length, Some, None, Option, sym, refl, ap, ◌∙◌, ap₂, arith}
+use Rattle.std.proofs.Common.{◌≡◌, ℕ, zero, suc, ◌^◌, ◌<◌, ◌≤◌, Bool, true, false, ◌&&◌, cond, ltb, List, [], ◌∷◌, map, reverse, length, Some, None, Option, option_map, sym, refl, ap, ◌∙◌, arith}
 use mathlib.Core.List.{reverse-reverse}
 use lib.ListN.{length-map, get_or-map, length-reverse}
 use lib.Bits.{or_lt}
+use Rattle.std.proofs.lemmas.Bool.{lt-ltb, ltb-true}
 use Rattle.std.proofs.lemmas.Bool.Decides.{nat_tests}
 use Rattle.std.specs.Bool.{then_some}
 use Rattle.space.specs.Meaning.{Meaning, Lawful}
 use Rattle.space.specs.Paths.{onward, targeted, solves, Nearest}
 use Rattle.strips.specs.Sets.{has, within, complement}
 use Rattle.strips.specs.Actions.{allowed, progress, consistent, regress, dual_action}
-use Rattle.strips.specs.Tasks.{Task, idle, action_at, of_sets, fine, fine_action, fine_actions, forward, backward, mirror, turned, only}
+use Rattle.strips.specs.Tasks.{Task, idle, action_at, of_sets, fine, fine_actions, forward, backward, mirror}
 use Rattle.strips.specs.Duality.{dual, carries, is_plan, space_in, Forwards, Backwards, Duality, Involution, DualFine, Mirrored, Ordered, in_order, SameLength}
 use Rattle.strips.specs.declared.action.Action.{Action}
 use Rattle.strips.proofs.Words.{within_at, within_of, digits, equal, has_past}
 use Rattle.space.proofs.Least.{nearest_exists}
-use Rattle.strips.proofs.Laws.{fine_at, forward_to, backward_to, forward_lawful, backward_lawful, mirror_lawful, complement_below, without_lt}
+use Rattle.strips.proofs.Laws.{action_fine, forward_to, backward_to, forward_lawful, backward_lawful, mirror_lawful, complement_below, without_lt}
 use Rattle.strips.proofs.Regression.{both, turn, fwd, sets_run, consistent_at, consistent_of}
 
 pub complement_twice : (n w : ℕ) → w < 2 ^ n → complement n (complement n w) ≡ w
@@ -22,36 +23,36 @@ complement_twice n w h = equal _ _ (λ i. let p : n ≤ i → has w i ≡ false 
 
 -- ---- the mirror
 module _ (n : ℕ) (m : Meaning ℕ) (l : Lawful m) (sets : (w : ℕ) → m.node w ≡ ltb w (2 ^ n)) where
-  mirror_next : (a k : ℕ) → a < 2 ^ n → (mirror n m).next (complement n a) k ≡ turned n (m.next a k)
-  mirror_next a k h =
-      let t : ltb (complement n a) (2 ^ n) ≡ true = let q : complement n a < 2 ^ n = complement_below n a in grind (arith, nat_tests) in
-      ap (λ (c : Bool). only c (turned n (m.next (complement n (complement n a)) k))) t ∙ ap (λ (w : ℕ). turned n (m.next w k)) (complement_twice n a h)
+  -- what is reached, if anything, is a set of n facts
+  abbrev IsSet : Option ℕ → Type 0
+  IsSet r = (a : ℕ) → r ≡ Some a → a < 2 ^ n
 
-  mirror_onward : (r : Option ℕ) → ((a : ℕ) → r ≡ Some a → a < 2 ^ n) → (ks : List ℕ) → onward (mirror n m) (turned n r) ks ≡ turned n (onward m r ks)
+  next_set : (a k : ℕ) → IsSet (m.next a k)
+  next_set a k b e = let q = l.next_node a b k e in let s = sets b in grind (arith, nat_tests)
+
+  mirror_next : (a k : ℕ) → a < 2 ^ n → (mirror n m).next (complement n a) k ≡ option_map (complement n) (m.next a k)
+  mirror_next a k h = rw (lt-ltb _ _ (complement_below n a), complement_twice n a h)
+
+  mirror_onward : (r : Option ℕ) → IsSet r → (ks : List ℕ) → onward (mirror n m) (option_map (complement n) r) ks ≡ option_map (complement n) (onward m r ks)
   mirror_onward None g ks = refl
   mirror_onward (Some a) g [] = refl
   mirror_onward (Some a) g (k ∷ ks) =
-      ap (λ (r : Option ℕ). onward (mirror n m) r ks) (mirror_next a k (g a refl))
-      ∙ mirror_onward (m.next a k) (λ b e. let q = l.next_node a b k e in let s = sets b in grind (arith, nat_tests)) ks
+      ap (λ (r : Option ℕ). onward (mirror n m) r ks) (mirror_next a k (g a refl)) ∙ mirror_onward (m.next a k) (next_set a k) ks
 
-  mirror_targeted : (r : Option ℕ) → ((a : ℕ) → r ≡ Some a → a < 2 ^ n) → targeted (mirror n m) (turned n r) ≡ targeted m r
+  mirror_targeted : (r : Option ℕ) → IsSet r → targeted (mirror n m) (option_map (complement n) r) ≡ targeted m r
   mirror_targeted None g = refl
-  mirror_targeted (Some a) g =
-      let t : ltb (complement n a) (2 ^ n) ≡ true = let q : complement n a < 2 ^ n = complement_below n a in grind (arith, nat_tests) in
-      ap (λ (c : Bool). c && m.target (complement n (complement n a))) t ∙ ap m.target (complement_twice n a (g a refl))
+  mirror_targeted (Some a) g = rw (lt-ltb _ _ (complement_below n a), complement_twice n a (g a refl))
 
-  onward_node : (r : Option ℕ) → ((a : ℕ) → r ≡ Some a → a < 2 ^ n) → (ks : List ℕ) → (b : ℕ) → onward m r ks ≡ Some b → b < 2 ^ n
-  onward_node None g ks b e = let z : ◌≡◌ {A = ℕ} 0 1 = cc in absurd (omega arith)
-  onward_node (Some a) g [] b e = g b e
-  onward_node (Some a) g (k ∷ ks) b e =
-      onward_node (m.next a k) (λ b e. let q = l.next_node a b k e in let s = sets b in grind (arith, nat_tests)) ks b e
+  onward_set : (r : Option ℕ) → IsSet r → (ks : List ℕ) → IsSet (onward m r ks)
+  onward_set None g ks b e = cc
+  onward_set (Some a) g [] b e = g b e
+  onward_set (Some a) g (k ∷ ks) b e = onward_set (m.next a k) (next_set a k) ks b e
 
   pub mirror_solves : (ks : List ℕ) → solves (mirror n m) ks ≡ solves m ks
   mirror_solves ks =
-      let st : (a : ℕ) → Some m.start ≡ Some a → a < 2 ^ n =
-      λ a e. let q = l.start_node in let s = sets m.start in let x : m.start ≡ a = cc in grind (arith, nat_tests) in
+      let st : IsSet (Some m.start) = λ a e. let q = l.start_node in let s = sets m.start in let x : m.start ≡ a = cc in grind (arith, nat_tests) in
       ap (targeted (mirror n m)) (mirror_onward (Some m.start) st ks)
-      ∙ mirror_targeted (onward m (Some m.start) ks) (onward_node (Some m.start) st ks)
+      ∙ mirror_targeted (onward m (Some m.start) ks) (onward_set (Some m.start) st ks)
 
 -- ---- plans forward and backward
 -- a list carries through as it runs
@@ -102,32 +103,10 @@ dual_target n s w hs hw = both _ _ (go s w) (go w s)
     go : (s w : ℕ) → within (complement n w) s ≡ true → within (complement n s) w ≡ true
     go s w h = within_of _ _ (λ i r. let f : has (complement n w) i ≡ true → has s i ≡ true = within_at _ _ h i in grind (arith, digits))
 
--- the parts of a step of a fine task
-action_fine : (h : Task) → fine h ≡ true → (k : ℕ) → k < length h.actions → fine_action h.facts (action_at h k) ≡ true
-action_fine h f k hk = let fs : fine_actions h.facts h.actions ≡ true = grind arith in fine_at h.facts h.actions k fs hk
-
-turned_then : (n : ℕ) (c : Bool) (x : ℕ) → turned n (then_some c x) ≡ then_some c (complement n x)
-turned_then n true x = refl
-turned_then n false x = refl
-
-only_then : (a b : Bool) (x : ℕ) → only a (then_some b x) ≡ then_some (a && b) x
-only_then true b x = refl
-only_then false b x = refl
-
--- the mirror over a space of sets is a space of sets
-mirror_sets : (n start count : ℕ) (target : ℕ → Bool) (may : ℕ → ℕ → Bool) (to : ℕ → ℕ → ℕ) (w k : ℕ)
-    → (mirror n (of_sets n start count target may to)).next w k ≡ then_some (ltb w (2 ^ n) && (ltb k count && may (complement n w) k)) (complement n (to (complement n w) k))
-mirror_sets n start count target may to w k =
-    let l : complement n w < 2 ^ n = complement_below n w in
-    let e : (ltb (complement n w) (2 ^ n) && (ltb k count && may (complement n w) k)) ≡ (ltb k count && may (complement n w) k) = grind (arith, nat_tests) in
-    ap (only (ltb w (2 ^ n))) (turned_then n (ltb (complement n w) (2 ^ n) && (ltb k count && may (complement n w) k)) (to (complement n w) k))
-    ∙ only_then (ltb w (2 ^ n)) (ltb (complement n w) (2 ^ n) && (ltb k count && may (complement n w) k)) (complement n (to (complement n w) k))
-    ∙ ap (λ (c : Bool). then_some (ltb w (2 ^ n) && c) (complement n (to (complement n w) k))) e
-
-same_then : (a b c d : Bool) (x y : ℕ) → (a ≡ true → b ≡ true → c ≡ d) → (a ≡ true → b ≡ true → x ≡ y) → then_some (a && (b && c)) x ≡ then_some (a && (b && d)) y
-same_then true true c d x y f g = ap₂ then_some (f refl refl) (g refl refl)
-same_then true false c d x y f g = refl
-same_then false b c d x y f g = refl
+-- a move of the mirror over a space of sets: a for the node, b for its complement, c for the number, and d and e for the move
+move_turned : (n : ℕ) (a b c d e : Bool) (x y : ℕ) → b ≡ true → (a ≡ true → c ≡ true → d ≡ e) → (a ≡ true → c ≡ true → complement n x ≡ y)
+    → cond a (option_map (complement n) (then_some (b && (c && d)) x)) None ≡ then_some (a && (c && e)) y
+move_turned n a b c d e x y p q r = grind arith
 
 -- two spaces of sets, one the mirror of the other
 mirror_is : (n start start' count count' : ℕ) (target target' : ℕ → Bool) (may may' : ℕ → ℕ → Bool) (to to' : ℕ → ℕ → ℕ)
@@ -144,15 +123,12 @@ mirror_is n start start' count count' target target' may may' to to' es ec et em
 }
   where
     tgt : (w : ℕ) → (ltb w (2 ^ n) && (ltb (complement n w) (2 ^ n) && target (complement n w))) ≡ (ltb w (2 ^ n) && target' w)
-    tgt w =
-        let l : complement n w < 2 ^ n = complement_below n w in
-        let f : w < 2 ^ n → target (complement n w) ≡ target' w = et w in grind (arith, nat_tests)
+    tgt w = let f : w < 2 ^ n → target (complement n w) ≡ target' w = et w in grind (arith, nat_tests, complement_below n w)
 
     nxt : (w k : ℕ) → (mirror n (of_sets n start count target may to)).next w k ≡ (of_sets n start' count' target' may' to').next w k
     nxt w k =
-        mirror_sets n start count target may to w k
-        ∙ same_then (ltb w (2 ^ n)) (ltb k count) (may (complement n w) k) (may' w k) (complement n (to (complement n w) k)) (to' w k)
-        (λ a b. em w k (grind (arith, nat_tests)) (grind (arith, nat_tests))) (λ a b. eo w k (grind (arith, nat_tests)) (grind (arith, nat_tests)))
+        move_turned n (ltb w (2 ^ n)) (ltb (complement n w) (2 ^ n)) (ltb k count) (may (complement n w) k) (may' w k) (to (complement n w) k) (to' w k)
+        (lt-ltb _ _ (complement_below n w)) (λ a b. em w k (ltb-true _ _ a) (ltb-true _ _ b)) (λ a b. eo w k (ltb-true _ _ a) (ltb-true _ _ b))
         ∙ ap (λ (c : ℕ). then_some (ltb w (2 ^ n) && (ltb k c && may' w k)) (to' w k)) ec
 
 pub mirrored_backward : (h : Task) → fine h ≡ true → mirror h.facts (backward h) ≡ forward (dual h)

@@ -1,13 +1,13 @@
 -- Words by their digits.
-use Rattle.std.proofs.Common.{MatchOption, ◌≡◌, ℕ, zero, suc, ◌+◌, ◌-◌, ◌/◌, ◌%◌, ◌^◌, ◌<◌, ◌≤◌, Bool, true, false, not, ◌&&◌, ◌||◌, eqb, ltb, min, max, refl, sym, ap, ◌∙◌, subst, mod-lt, arith, pow_pos}
+use Rattle.std.proofs.Common.{MatchOption, ◌≡◌, ℕ, ◌+◌, ◌-◌, ◌/◌, ◌%◌, ◌^◌, ◌<◌, ◌≤◌, Bool, true, false, not, ◌&&◌, ◌||◌, eqb, leb, ltb, min, max, refl, sym, ap, ◌∙◌, subst, mod-lt, arith, pow_pos}
 use lib.Bits.{bit_and, bit_or, bit_xor, xor_add_and}
 use mir.Syntax.{w64}
 use Rattle.std.specs.Bool.{Decides, then_some}
-use Rattle.std.specs.Int.{bit_at, trailing_zeros}
+use Rattle.std.specs.Int.{trailing_zeros}
 use Rattle.std.proofs.lemmas.Nat.{and-not, and_comm, and_mask}
 use Rattle.std.proofs.lemmas.Nat.Bits.{bit_at_and, bit_at_or, bit_at_xor, bit_at-lt, bit_at_above, bit_at_ones, bit_at_ones_above, bit_at-zero, bit_at-trailing_zeros, ones_shr, same_from_bits}
 use Rattle.std.proofs.lemmas.Bool.{eqb-true}
-use Rattle.std.proofs.lemmas.Bool.Decides.{nat_tests, Decides-like, Decides-ltb}
+use Rattle.std.proofs.lemmas.Bool.Decides.{nat_tests, Decides-at, Decides-like, Decides-ltb}
 use Rattle.strips.specs.Sets.{has, full, without, within, disjoint, Within, ByMembership}
 
 -- the bits of both words, of either, and of one alone
@@ -96,9 +96,12 @@ pub within_decides : (a b : ℕ) → Decides (within a b) (Within a b)
 within_decides a b = (within_at a b, within_of a b)
 
 pub disjoint_decides : (a b : ℕ) → Decides (disjoint a b) ((i : ℕ) → (has a i && has b i) ≡ false)
-disjoint_decides a b = (λ h i. let e : bit_and a b ≡ 0 = grind (arith, nat_tests) in sym (has_and a b i) ∙ ap (λ (x : ℕ). has x i) e ∙ has_none i, λ h.
-    let e : bit_and a b ≡ 0 = equal _ _ (λ i. has_and a b i ∙ h i ∙ sym (has_none i)) in
-    grind (arith, e))
+disjoint_decides a b = (
+  λ h i. let e : bit_and a b ≡ 0 = grind (arith, nat_tests) in sym (has_and a b i) ∙ ap (λ (x : ℕ). has x i) e ∙ has_none i,
+  λ h.
+      let e : bit_and a b ≡ 0 = equal _ _ (λ i. has_and a b i ∙ h i ∙ sym (has_none i)) in
+      grind (arith, e),
+)
 
 -- a set with no fact at or past n is below 2 ^ n
 few_below : (n w : ℕ) → ((i : ℕ) → n ≤ i → has w i ≡ false) → w < 2 ^ n
@@ -106,8 +109,14 @@ few_below n w f =
     let e : bit_and w (full n) ≡ w = equal _ _ (λ i. let p : n ≤ i → has w i ≡ false = f i in simp digits (grind (arith, nat_tests))) in
     subst (λ (x : ℕ). x < 2 ^ n) (sym (and_mask w n) ∙ e) (mod-lt w (pow_pos n))
 
-pub few_decides : (n w : ℕ) → Decides (ltb w (2 ^ n)) ((i : ℕ) → n ≤ i → has w i ≡ false)
+few_decides : (n w : ℕ) → Decides (ltb w (2 ^ n)) ((i : ℕ) → n ≤ i → has w i ≡ false)
 few_decides n w = Decides-like _ (λ h i l. has_past n w i h l) (few_below n w) (Decides-ltb w (2 ^ n))
+
+-- the same, by all of n facts
+pub covers_decides : (n w all : ℕ) → all ≡ full n → Decides (leb w all) ((i : ℕ) → n ≤ i → has w i ≡ false)
+covers_decides n w all e =
+    let t : leb w all ≡ ltb w (2 ^ n) = grind (arith, nat_tests, pow_pos n) in
+    Decides-at _ _ t (few_decides n w)
 
 pub by_membership : ByMembership
 by_membership = record {

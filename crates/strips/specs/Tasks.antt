@@ -1,5 +1,5 @@
 -- Tasks and their search spaces. Assumes nothing.
-use Rattle.std.specs.Prelude.{ℕ, ◌^◌, Bool, true, false, ◌&&◌, List, length, Some, None, Option, nat_le, nat_lt, slice_index_or}
+use Rattle.std.specs.Prelude.{ℕ, ◌^◌, Bool, ◌&&◌, List, length, None, Option, if◌then◌else◌, nat_le, nat_lt, option_map, slice_index_or}
 use Rattle.std.specs.Bool.{then_some}
 use Rattle.std.specs.List.{list_all}
 use Rattle.space.specs.Meaning.{Meaning}
@@ -59,22 +59,12 @@ abbrev pub backward : Task → Meaning ℕ
 backward h =
     of_sets h.facts h.goal (length h.actions) (λ w. within w h.state) (λ w k. consistent (action_at h k) w) (λ w k. regress (action_at h k) w)
 
--- a next node as its complement in n facts
-abbrev pub turned : ℕ → Option ℕ → Option ℕ
-turned n (Some w) = Some (complement n w)
-turned n None = None
-
--- every move from what is not a node is forbidden
-abbrev pub only : Bool → Option ℕ → Option ℕ
-only true r = r
-only false r = None
-
--- a space of sets of n facts, with each node shown as its complement
+-- a space of sets of n facts, with each node shown as its complement; every move from what is not a node is forbidden
 abbrev pub mirror : ℕ → Meaning ℕ → Meaning ℕ
 mirror n m = record {
   node = λ w. nat_lt w (2 ^ n);
   start = complement n m.start;
   count = m.count;
   target = λ w. nat_lt w (2 ^ n) && m.target (complement n w);
-  next = λ w k. only (nat_lt w (2 ^ n)) (turned n (m.next (complement n w) k));
+  next = λ w k. if nat_lt w (2 ^ n) then option_map (complement n) (m.next (complement n w) k) else None;
 }

@@ -32,6 +32,7 @@ impl Action {
     }
 
     // The state after the action: the added facts are joined, and then the deleted ones removed.
+    #[tactic(auto, using(crate::proofs::Words::has_or))]
     pub fn after(self, state: u64) -> u64
         ensures value { result ≡ progress self state }
         ensures facts { (i : ℕ) → has result i ≡ ((has state i || has self.adds i) && not (has self.deletes i)) }
@@ -47,6 +48,7 @@ impl Action {
     }
 
     // Whether the action may be taken back from a node: it deletes none of its facts.
+    #[tactic(auto, using(crate::proofs::Words::disjoint_decides))]
     pub fn is_consistent(self, node: u64) -> bool
         ensures value { result ≡ consistent self node }
         ensures facts { Decides result ((i : ℕ) → (has node i && has self.deletes i) ≡ false) }
@@ -55,6 +57,7 @@ impl Action {
     }
 
     // The node before the action: the added facts are removed, and then the needed ones joined.
+    #[tactic(auto, using(crate::proofs::Words::has_or))]
     pub fn before(self, node: u64) -> u64
         ensures value { result ≡ regress self node }
         ensures facts { (i : ℕ) → has result i ≡ ((has node i && not (has self.adds i)) || has self.needs i) }

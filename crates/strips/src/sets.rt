@@ -5,6 +5,7 @@ ghost use Rattle.strips.specs.Sets.{complement, full, has, Within, within, witho
 use crate::MAX_FACTS;
 
 // The facts of one set that are not in the other.
+#[tactic(auto, using(crate::proofs::Words::and_not, crate::proofs::Words::has_without))]
 pub fn difference(a: u64, b: u64) -> u64
     ensures value { result ≡ without a b }
     ensures facts { (i : ℕ) → has result i ≡ (has a i && not (has b i)) }
@@ -13,6 +14,7 @@ pub fn difference(a: u64, b: u64) -> u64
 }
 
 // Whether every fact of the first set is in the second.
+#[tactic(auto, using(crate::proofs::Words::within_decides), unfolding(crate::specs::Sets::within))]
 pub fn is_within(a: u64, b: u64) -> bool
     ensures value { result ≡ within a b }
     ensures facts { Decides result (Within a b) }
@@ -21,6 +23,7 @@ pub fn is_within(a: u64, b: u64) -> bool
 }
 
 // The lowest fact of a set, where it has one.
+#[tactic(auto, using(crate::proofs::Words::lowest_is))]
 pub fn lowest(set: u64) -> Option<usize>
     ensures { MatchOption result ((j : ℕ) → has set j ≡ false) (λ i. (i < 64) × (has set i ≡ true) × ((j : ℕ) → j < i → has set j ≡ false)) }
 {
@@ -46,6 +49,7 @@ impl FactCount {
     }
 
     // All the facts.
+    #[tactic(auto, using(crate::proofs::Words::full_64, crate::proofs::Words::has_full))]
     pub(crate) fn all(self) -> u64
         ensures value { result ≡ full self.n }
         ensures facts { (i : ℕ) → has result i ≡ nat_lt i self.n }
@@ -54,6 +58,7 @@ impl FactCount {
     }
 
     // Whether the set has no other facts.
+    #[tactic(auto, using(crate::proofs::Words::covers_decides))]
     pub(crate) fn covers(self, set: u64) -> bool
         ensures value { result ≡ nat_lt set (2 ^ self.n) }
         ensures facts { Decides result ((i : ℕ) → self.n ≤ i → has set i ≡ false) }

@@ -151,8 +151,9 @@ impl<S: FactSpace> Space for Mirror<S> {
         if !facts.covers(node) {
             return None;
         }
-        let next = self.inner.next(facts.opposite(node), by)?;
-        Some(facts.opposite(next))
+        self.inner
+            .next(facts.opposite(node), by)
+            .map(|next| facts.opposite(next))
     }
 
     fn same(&self, a: u64, b: u64) -> bool {

@@ -1,5 +1,0 @@
-use Rattle.strips.proofs.Dual.{forwards}
-use Rattle.strips.proofs.plans_lead_forward.Goals as goal
-
-pub returns : goal.returns
-returns c = forwards
