@@ -1,2 +1,4 @@
+pub mod Directions
+pub mod Questions
 pub mod Planning
 pub mod Agreement

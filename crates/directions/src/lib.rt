@@ -1,66 +1,125 @@
 // Planning and checking in each of the four directions of a task.
 #![tactic(auto)]
 
-ghost use Rattle.std.specs.Prelude.{◌≡◌, ◌≤◌, true, reverse, length, take, drop};
-ghost use Rattle.bfs.specs.Answers.{Answered, buffers};
-ghost use Rattle.closed.specs.Check.{Checked};
+ghost use Rattle.std.specs.Prelude.{◌≡◌, ℕ, ◌≤◌, length, take, drop};
+ghost use Rattle.bfs.specs.Answers.{buffers};
 ghost use Rattle.directions.specs.Agreement.{AcceptedNone, AlwaysAsSearched, DirectionsAgree, PlansTold};
+ghost use Rattle.directions.specs.Directions.{number, Numbered};
 ghost use Rattle.directions.specs.Planning.{AnsweredIn, CheckedIn};
-ghost use Rattle.space.specs.Paths.{solves};
-ghost use Rattle.strips.specs.Duality.{is_plan, space_in};
-ghost use Rattle.strips.specs.Views.{task_in};
+ghost use Rattle.directions.specs.Questions.{RowsChecked, Searched};
+ghost use Rattle.space.specs.Meaning.{Meaning};
+ghost use Rattle.strips.specs.Duality.{in_order, space_in};
+ghost use Rattle.strips.specs.Views.{task_in, task_of};
 
 use bfs::{Link, Outcome, find_plan};
 use closed::check_closed;
 use fault::Fault;
-use strips::{Backward, Forward, Mirror, Task};
+use space::Space;
+use strips::{Backward, Forward, Mirror, Task, TaskView};
 
-// The highest direction: 0 is forward, 1 backward, 2 the mirror over backward, 3 the mirror over forward.
-const LAST_DIRECTION: usize = 3;
+// Where a plan is searched.
+#[derive(Clone, Copy, PartialEq, Eq, Debug)]
+pub enum Direction {
+    // from the state to the goal
+    Forward,
+    // from the goal back to the state
+    Backward,
+    // forward on the dual task: the mirror over backward
+    DualForward,
+    // backward on the dual task: the mirror over forward
+    DualBackward,
+}
 
-// The search in the space of a direction.
-fn search_in(
-    direction: usize,
-    task: &Task,
-    nodes: &mut [u64],
-    links: &mut [Link],
-    plan: &mut [u16],
-) -> Result<Outcome, Fault>
-    ensures { Answered (space_in (task_in task.now) direction) (buffers nodes.old links.old plan.old) (buffers nodes.new links.new plan.new) result }
-{
-    let task = task.view();
-    match direction {
-        0 => find_plan(&Forward { task }, nodes, links, plan),
-        1 => find_plan(&Backward { task }, nodes, links, plan),
-        2 => {
-            let inner = Backward { task };
-            find_plan(&Mirror { inner }, nodes, links, plan)
-        }
-        _ => {
-            let inner = Forward { task };
-            find_plan(&Mirror { inner }, nodes, links, plan)
+// The directions are numbered in this order, from 0.
+impl TryFrom<usize> for Direction {
+    type Error = Fault;
+
+    ghost try_from_gives = { Numbered };
+
+    fn try_from(number: usize) -> Result<Direction, Fault> {
+        match number {
+            0 => Ok(Direction::Forward),
+            1 => Ok(Direction::Backward),
+            2 => Ok(Direction::DualForward),
+            3 => Ok(Direction::DualBackward),
+            _ => Err(Fault::NoSuchDirection),
         }
     }
 }
 
-// Turns the first moves round.
-fn turn_round(plan: &mut [u16], n: usize)
-    requires { n ≤ length plan.old }
-    ensures moves { take n plan.new ≡ reverse (take n plan.old) }
-    ensures past { drop n plan.new ≡ drop n plan.old }
+// What can be asked of any space of sets of facts.
+trait Question {
+    type Answer;
+
+    // what the answer is for a space of this meaning, and what the question then holds
+    ghost answered: { Meaning ℕ → Self → Self → Self.Answer → Type 0 };
+
+    // Puts the question to a space.
+    fn ask<S: Space<Node = u64>>(&mut self, space: &S) -> Self::Answer
+        ensures { answered (S.Space.meaning space.now) self.old self.new result };
+}
+
+// A search for a plan, in lent tables and a lent plan slice.
+#[derive(Drop)]
+struct Search<'a> {
+    nodes: &'a mut [u64],
+    links: &'a mut [Link],
+    plan: &'a mut [u16],
+}
+
+impl Question for Search<'_> {
+    type Answer = Result<Outcome, Fault>;
+
+    ghost answered = { Searched };
+
+    fn ask<S: Space<Node = u64>>(&mut self, space: &S) -> Result<Outcome, Fault> {
+        find_plan(space, self.nodes, self.links, self.plan)
+    }
+}
+
+// A check of lent rows.
+#[derive(Drop)]
+struct Check<'a> {
+    rows: &'a [u64],
+}
+
+impl Question for Check<'_> {
+    type Answer = Result<(), Fault>;
+
+    ghost answered = { RowsChecked };
+
+    fn ask<S: Space<Node = u64>>(&mut self, space: &S) -> Result<(), Fault> {
+        check_closed(space, self.rows)
+    }
+}
+
+// Puts a question to the space of a direction.
+fn ask_in<Q: Question>(direction: Direction, task: TaskView<'_>, question: &mut Q) -> Q::Answer
+    ensures { Q.answered (space_in (task_of task.entry) (number direction)) question.old question.new result }
 {
-    plan[0..n].reverse();
+    match direction {
+        Direction::Forward => question.ask(&Forward { task }),
+        Direction::Backward => question.ask(&Backward { task }),
+        Direction::DualForward => {
+            let inner = Backward { task };
+            question.ask(&Mirror { inner })
+        }
+        Direction::DualBackward => {
+            let inner = Forward { task };
+            question.ask(&Mirror { inner })
+        }
+    }
 }
 
 // Brings the first moves, as the search in a direction found them, into the task's order.
-fn put_in_order(direction: usize, task: &Task, plan: &mut [u16], n: usize)
+fn put_in_order(direction: Direction, plan: &mut [u16], n: usize)
     requires { n ≤ length plan.old }
-    ensures plan { solves (space_in (task_in task.now) direction) (take n plan.old) ≡ true → is_plan (task_in task.now) (take n plan.new) ≡ true }
+    ensures moves { take n plan.new ≡ in_order (number direction) (take n plan.old) }
     ensures past { drop n plan.new ≡ drop n plan.old }
 {
     match direction {
-        1 | 2 => turn_round(plan, n),
-        _ => {}
+        Direction::Forward | Direction::DualBackward => {}
+        Direction::Backward | Direction::DualForward => plan[..n].reverse(),
     }
 }
 
@@ -77,56 +136,35 @@ pub fn plan_in(
 ) -> Result<Outcome, Fault>
     ensures { AnsweredIn (task_in task.now) direction (buffers nodes.old links.old plan.old) (buffers nodes.new links.new plan.new) result }
 {
-    if direction > LAST_DIRECTION {
-        return Err(Fault::NoSuchDirection);
+    let direction = Direction::try_from(direction)?;
+    let mut search = Search { nodes, links, plan };
+    let outcome = ask_in(direction, task.view(), &mut search)?;
+    if let Outcome::Plan((length, _)) = outcome {
+        put_in_order(direction, search.plan, length);
     }
-    match search_in(direction, task, nodes, links, plan) {
-        Ok(Outcome::Plan((length, used))) => {
-            put_in_order(direction, task, plan, length);
-            Ok(Outcome::Plan((length, used)))
-        }
-        Ok(Outcome::NoPlan(used)) => Ok(Outcome::NoPlan(used)),
-        Err(fault) => Err(fault),
-    }
-}
-
-// The closed-set check in the space of a direction.
-fn check_space(direction: usize, task: &Task, rows: &[u64]) -> Result<(), Fault>
-    ensures { Checked (space_in (task_in task.now) direction) rows.now result }
-{
-    let task = task.view();
-    match direction {
-        0 => check_closed(&Forward { task }, rows),
-        1 => check_closed(&Backward { task }, rows),
-        2 => {
-            let inner = Backward { task };
-            check_closed(&Mirror { inner }, rows)
-        }
-        _ => {
-            let inner = Forward { task };
-            check_closed(&Mirror { inner }, rows)
-        }
-    }
+    Ok(outcome)
 }
 
 // Whether the rows are a closed set in a direction of a task, or where they first break the rule.
 pub fn check_in(direction: usize, task: &Task, rows: &[u64]) -> Result<(), Fault>
     ensures { CheckedIn (task_in task.now) direction rows.now result }
 {
-    if direction <= LAST_DIRECTION {
-        check_space(direction, task, rows)
-    } else {
-        Err(Fault::NoSuchDirection)
-    }
+    ask_in(
+        Direction::try_from(direction)?,
+        task.view(),
+        &mut Check { rows },
+    )
 }
 
 // Two plannings of one task that are not refused either both say none, or both show plans of equal length, whatever the directions and
 // the tables.
+#[tactic(auto, using(crate::proofs::Agreement::directions_agree_lem))]
 pub fn directions_agree()
     ensures { DirectionsAgree }
 {}
 
 // What is shown is a plan of the task, and no plan is shorter; where none is said, or a closed set is accepted, there is no plan.
+#[tactic(auto, using(crate::proofs::Agreement::plans_told))]
 pub fn answers_tell_of_the_task()
     ensures told { PlansTold }
     ensures accepted { AcceptedNone }
@@ -134,6 +172,7 @@ pub fn answers_tell_of_the_task()
 
 // An answer in a direction is the search's in that direction's space, with a plan shown in the task's order; and the check in a direction
 // accepts the rows used where planning in it says none.
+#[tactic(auto, using(crate::proofs::Agreement::as_searched))]
 pub fn answers_are_as_searched()
     ensures { AlwaysAsSearched }
 {}
