@@ -4,10 +4,10 @@
 #[cfg(test)]
 mod tests {
     use bfs::{Link, Outcome};
-    use directions::{check_in, plan_in};
+    use directions::{Direction, check_in, plan_in};
     use fault::Fault;
     use std::test::Fail;
-    use strips::{Action, Task, lowest};
+    use strips::{Action, Task, TaskView, lowest};
 
     // The facts are pods, clean, ground and packed.
     const GRIND: Action = Action {
@@ -32,24 +32,17 @@ mod tests {
     const UNTOUCHED: u16 = 777;
 
     fn task(actions: &[Action]) -> Result<Task, Fail> {
-        match Task::new(4, actions, 0b0011, 0b1000) {
-            Some(task) => Ok(task),
-            None => Err(Fail::new("no task")),
-        }
+        Task::new(4, actions, 0b0011, 0b1000).ok_or_else(|| Fail::new("no task"))
     }
 
     // Plans in a direction with so many rows; the answer, and the first moves.
-    fn planned(
-        direction: usize,
-        task: &Task,
-        rows: usize,
-    ) -> (Result<Outcome, Fault>, (u16, u16, u16)) {
+    fn planned(direction: usize, task: &Task, rows: usize) -> (Result<Outcome, Fault>, [u16; 3]) {
         let mut nodes = [0u64; 8];
         let mut links = [Link::ORIGIN; 8];
         let mut plan = [UNTOUCHED; 3];
         let rows = rows.min(8);
         let answer = plan_in(direction, task, &mut nodes[0..rows], &mut links, &mut plan);
-        (answer, (plan[0], plan[1], plan[2]))
+        (answer, plan)
     }
 
     #[test]
@@ -58,10 +51,10 @@ mod tests {
         for (direction, rows) in [(0, 4), (1, 8), (2, 8), (3, 4)] {
             let (answer, moves) = planned(direction, &task, rows);
             assert_eq!(rt; answer, Ok(Outcome::Plan((3, rows))));
-            assert_eq!(rt; moves, (0, 1, 2));
+            assert_eq!(rt; moves, [0, 1, 2]);
             let (answer, moves) = planned(direction, &task, rows.saturating_sub(1));
             assert_eq!(rt; answer, Err(Fault::TooFewRows));
-            assert_eq!(rt; moves, (UNTOUCHED, UNTOUCHED, UNTOUCHED));
+            assert_eq!(rt; moves, [UNTOUCHED; 3]);
         }
         Ok(())
     }
@@ -69,10 +62,9 @@ mod tests {
     #[test]
     fn without_wash_there_is_no_plan(rt: HostRuntime) -> Result<(), Fail> {
         let task = task(&[GRIND, PACK])?;
-        assert_eq!(rt; planned(0, &task, 8).0, Ok(Outcome::NoPlan(2)));
-        assert_eq!(rt; planned(1, &task, 8).0, Ok(Outcome::NoPlan(4)));
-        assert_eq!(rt; planned(2, &task, 8).0, Ok(Outcome::NoPlan(4)));
-        assert_eq!(rt; planned(3, &task, 8).0, Ok(Outcome::NoPlan(2)));
+        for (direction, used) in [(0, 2), (1, 4), (2, 4), (3, 2)] {
+            assert_eq!(rt; planned(direction, &task, 8).0, Ok(Outcome::NoPlan(used)));
+        }
         assert!(rt; check_in(0, &task, &[3, 4]).is_ok());
         assert!(rt; check_in(1, &task, &[8, 11, 6, 7]).is_ok());
         assert!(rt; check_in(2, &task, &[7, 4, 9, 8]).is_ok());
@@ -87,12 +79,26 @@ mod tests {
         let task = task(&[GRIND, WASH, PACK])?;
         let (answer, moves) = planned(4, &task, 8);
         assert_eq!(rt; answer, Err(Fault::NoSuchDirection));
-        assert_eq!(rt; moves, (UNTOUCHED, UNTOUCHED, UNTOUCHED));
+        assert_eq!(rt; moves, [UNTOUCHED; 3]);
         assert_eq!(rt;
             check_in(usize::MAX, &task, &[3, 4]),
             Err(Fault::NoSuchDirection)
         );
         Ok(())
+    }
+
+    #[test]
+    fn directions_are_numbered(rt: HostRuntime) {
+        assert_eq!(rt; Direction::try_from(0), Ok(Direction::Forward));
+        assert_eq!(rt; Direction::try_from(1), Ok(Direction::Backward));
+        assert_eq!(rt; Direction::try_from(2), Ok(Direction::DualForward));
+        assert_eq!(rt; Direction::try_from(3), Ok(Direction::DualBackward));
+    }
+
+    #[test]
+    fn lent_actions_are_a_task(rt: HostRuntime) {
+        assert!(rt; TaskView::new(4, &[GRIND, WASH, PACK], 0b0011, 0b1000).is_some());
+        assert!(rt; TaskView::new(4, &[GRIND, WASH, PACK], 0b0011, 0b10000).is_none());
     }
 
     #[test]
