@@ -13,10 +13,10 @@ use Rattle.strips.specs.Actions.{allowed, progress, consistent, regress, dual_ac
 use Rattle.strips.specs.Tasks.{Task, idle, action_at, of_sets, fine, fine_actions, forward, backward, mirror}
 use Rattle.strips.specs.Duality.{dual, carries, is_plan, space_in, Forwards, Backwards, Duality, Involution, DualFine, Mirrored, Ordered, in_order, SameLength}
 use Rattle.strips.specs.declared.action.Action.{Action}
-use Rattle.strips.proofs.Words.{within_at, within_of, digits, equal, has_past}
+use Rattle.strips.proofs.Words.{within_at, within_of, disjoint_decides, digits, equal, has_past}
 use Rattle.space.proofs.Least.{nearest_exists}
 use Rattle.strips.proofs.Laws.{action_fine, forward_to, backward_to, forward_lawful, backward_lawful, mirror_lawful, complement_below, without_lt}
-use Rattle.strips.proofs.Regression.{both, turn, fwd, sets_run, consistent_at, consistent_of}
+use Rattle.strips.proofs.Regression.{both, turn, fwd, sets_run}
 
 pub complement_twice : (n w : ℕ) → w < 2 ^ n → complement n (complement n w) ≡ w
 complement_twice n w h = equal _ _ (λ i. let p : n ≤ i → has w i ≡ false = has_past n w i h in simp digits (grind (arith, nat_tests)))
@@ -82,13 +82,13 @@ dual_allowed n p w hd = both _ _ there back
     there : consistent p (complement n w) ≡ true → within p.deletes w ≡ true
     there c =
         within_of _ _ (λ i r.
-        let d = consistent_at p (complement n w) i c in
+        let d = (disjoint_decides (complement n w) p.deletes).0 c i in
         let e : n ≤ i → has p.deletes i ≡ false = has_past n p.deletes i hd in
         grind (arith, digits, nat_tests))
 
     back : within p.deletes w ≡ true → consistent p (complement n w) ≡ true
     back h =
-        consistent_of p (complement n w) (λ i. let f : has p.deletes i ≡ true → has w i ≡ true = within_at _ _ h i in grind (arith, digits))
+        (disjoint_decides _ p.deletes).1 (λ i. let f : has p.deletes i ≡ true → has w i ≡ true = within_at _ _ h i in grind (arith, digits))
 
 dual_progress : (n : ℕ) (p : Action) (w : ℕ) → w < 2 ^ n → p.adds < 2 ^ n → complement n (regress p (complement n w)) ≡ progress (dual_action p) w
 dual_progress n p w hw ha =

@@ -15,12 +15,6 @@ use Rattle.strips.proofs.Words.{within_at, within_of, disjoint_decides, digits}
 pub both : (x y : Bool) → (x ≡ true → y ≡ true) → (y ≡ true → x ≡ true) → x ≡ y
 both x y f g = grind arith
 
-pub consistent_at : (p : Action) (t i : ℕ) → consistent p t ≡ true → (has t i && has p.deletes i) ≡ false
-consistent_at p t i h = (disjoint_decides t p.deletes).0 h i
-
-pub consistent_of : (p : Action) (t : ℕ) → ((i : ℕ) → (has t i && has p.deletes i) ≡ false) → consistent p t ≡ true
-consistent_of p t h = (disjoint_decides t p.deletes).1 h
-
 -- t is met after an allowed step exactly when the step deletes none of t and what t asks before it is met
 pub key : (p : Action) (s t : ℕ) → (allowed p s && within t (progress p s)) ≡ (consistent p t && within (regress p t) s)
 key p s t = both _ _ there back
@@ -30,7 +24,7 @@ key p s t = both _ _ there back
         let a : within p.needs s ≡ true = grind arith in
         let b : within t (progress p s) ≡ true = grind arith in
         let c : consistent p t ≡ true =
-        consistent_of p t (λ i. let f : has t i ≡ true → has (progress p s) i ≡ true = within_at _ _ b i in grind (arith, digits)) in
+        (disjoint_decides t p.deletes).1 (λ i. let f : has t i ≡ true → has (progress p s) i ≡ true = within_at _ _ b i in grind (arith, digits)) in
         let w : within (regress p t) s ≡ true =
         within_of _ _ (λ i r.
         let f : has t i ≡ true → has (progress p s) i ≡ true = within_at _ _ b i in
@@ -47,7 +41,7 @@ key p s t = both _ _ there back
         let b : within t (progress p s) ≡ true =
         within_of _ _ (λ i r.
         let f : has (regress p t) i ≡ true → has s i ≡ true = within_at _ _ w i in
-        let d : (has t i && has p.deletes i) ≡ false = consistent_at p t i c in
+        let d : (has t i && has p.deletes i) ≡ false = (disjoint_decides t p.deletes).0 c i in
         grind (arith, digits)) in
         grind arith
 

@@ -12,11 +12,10 @@ task_of v = record { facts = v.facts.n; actions = v.actions.now; state = v.state
 abbrev pub task_in : Owned → Task
 task_in t = record { facts = t.facts.n; actions = t.actions.items; state = t.state; goal = t.goal }
 
--- made exactly where it is a task
-abbrev pub Made : Task → Option Owned → Type 0
-Made h (Some t) = (fine h ≡ true) × (task_in t ≡ h)
-Made h None = fine h ≡ false
+-- a value that shows a task is made exactly where it is a task
+abbrev pub MadeBy : {T : Type 0} → (T → Task) → Task → Option T → Type 0
+MadeBy shows h (Some t) = (fine h ≡ true) × (shows t ≡ h)
+MadeBy shows h None = fine h ≡ false
 
-abbrev pub Shown : Task → Option TaskView → Type 0
-Shown h (Some v) = (fine h ≡ true) × (task_of v ≡ h)
-Shown h None = fine h ≡ false
+abbrev pub Made : Task → Option Owned → Type 0
+Made h r = MadeBy task_in h r

@@ -1,4 +1,4 @@
-// Tasks, and their parts as spaces are lent them.
+// Tasks, with actions that are lent and with actions of their own.
 ghost use Rattle.std.specs.Prelude.{◌≡◌, true};
 ghost use Rattle.strips.specs.Tasks.{fine, fine_actions};
 
@@ -17,7 +17,7 @@ pub struct TaskView<'a> {
     ghost ok: { fine (record { facts = facts.n; actions = actions.now; state = state; goal = goal }) ≡ true },
 }
 
-// The count of facts, the actions in their order, the facts that hold now, and those that are to hold.
+// A task: the count of facts, the actions in their order, the facts that hold now, and those that are to hold.
 #[derive(Drop)]
 pub struct Task {
     facts: FactCount,
@@ -45,13 +45,12 @@ fn is_task(facts: FactCount, actions: &[Action], state: u64, goal: u64) -> bool
 }
 
 impl<'a> TaskView<'a> {
-    ghost use Rattle.std.specs.Prelude.{ℕ};
-    ghost use Rattle.strips.specs.Views.{Shown, task_of};
+    ghost use Rattle.strips.specs.Views.{MadeBy, task_of};
     ghost use Rattle.strips.specs.Tasks.{action_from};
 
     // A task of 1 to 64 facts and at most 256 actions, none of whose sets has a fact at or past the count; or none where these are no task.
     pub fn new(facts: u8, actions: &'a [Action], state: u64, goal: u64) -> Option<TaskView<'a>>
-        ensures { Shown (record { facts = facts; actions = actions.now; state = state; goal = goal }) result }
+        ensures { MadeBy task_of (record { facts = facts; actions = actions.now; state = state; goal = goal }) result }
     {
         let facts = FactCount::new(facts)?;
         if !is_task(facts, actions, state, goal) {
@@ -83,10 +82,11 @@ impl Task {
     pub fn new(facts: u8, actions: &[Action], state: u64, goal: u64) -> Option<Task>
         ensures { Made (record { facts = facts; actions = actions.now; state = state; goal = goal }) result }
     {
-        let view = TaskView::new(facts, actions, state, goal)?;
+        let facts = TaskView::new(facts, actions, state, goal)?.facts;
+        let actions = ArrayVec::try_from(actions).unwrap();
         Some(Task {
-            facts: view.facts,
-            actions: ArrayVec::try_from(actions).ok()?,
+            facts,
+            actions,
             state,
             goal,
         })
