@@ -26,9 +26,13 @@ number_le DualForward = omega arith
 number_le DualBackward = omega arith
 
 -- a check in a direction answers as the space's
-pub check_answered : (h : Task) (d : Direction) (rows : List ℕ) (r : Result (Unit {0}) Fault) → Checked (space_in h (number d)) rows r → CheckedIn h (number d) rows r
-check_answered h d rows (Ok _) x = (number_le d, x)
-check_answered h d rows (Err g) x = broken (number_le d) x
+pub check_answered : (h h' : Task) (d : Direction) (k : ℕ) (rows : List ℕ) (r : Result (Unit {0}) Fault) → h ≡ h' → number d ≡ k
+    → Checked (space_in h (number d)) rows r → CheckedIn h' k rows r
+check_answered h h' d k rows r s t x = subst (λ (g : Task). CheckedIn g k rows r) s (subst (λ (i : ℕ). CheckedIn h i rows r) t (answered r x))
+  where
+    answered : (r : Result (Unit {0}) Fault) → Checked (space_in h (number d)) rows r → CheckedIn h (number d) rows r
+    answered (Ok _) x = (number_le d, x)
+    answered (Err g) x = broken (number_le d) x
 
 module _ (h : Task) (f : fine h ≡ true) where
   -- moves in a direction's order, put into the task's

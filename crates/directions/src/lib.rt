@@ -17,7 +17,7 @@ use fault::Fault;
 use space::Space;
 use strips::{Backward, Forward, Mirror, Task, TaskView};
 
-// Where a plan is searched.
+// In which space of a task a plan is searched.
 #[derive(Clone, Copy, PartialEq, Eq, Debug)]
 pub enum Direction {
     // from the state to the goal
@@ -127,6 +127,7 @@ fn put_in_order(direction: Direction, plan: &mut [u16], n: usize)
 //
 // The answer is the search's in that direction's space, with the plan in the task's order; where there is no such direction it is a
 // refusal, and the buffers stay as they were.
+#[tactic(auto, using(crate::proofs::Agreement::plan_answered))]
 pub fn plan_in(
     direction: usize,
     task: &Task,
@@ -146,6 +147,7 @@ pub fn plan_in(
 }
 
 // Whether the rows are a closed set in a direction of a task, or where they first break the rule.
+#[tactic(auto, using(crate::proofs::Agreement::check_answered))]
 pub fn check_in(direction: usize, task: &Task, rows: &[u64]) -> Result<(), Fault>
     ensures { CheckedIn (task_in task.now) direction rows.now result }
 {
