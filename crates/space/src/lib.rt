@@ -45,12 +45,7 @@ pub fn holds<S: Space>(space: &S, rows: &[S::Node], node: S::Node) -> bool
     ensures found { result ≡ true → Held (node_at (S.Space.meaning space.now) rows.now) (length rows.now) node }
     ensures missed { result ≡ false → Held (node_at (S.Space.meaning space.now) rows.now) (length rows.now) node → ⊥ }
 {
-    for row in rows {
-        if space.same(*row, node) {
-            return true;
-        }
-    }
-    false
+    rows.iter().any(|row| space.same(*row, node))
 }
 
 // The counted nodes are, in every space, those no farther than the nearest target, or all reachable ones where no target is reachable.
