@@ -1,104 +1,96 @@
 -- What a stage of the search shows, and how one leads to the next.
-use Rattle.std.proofs.Common.{◌≡◌, ℕ, zero, suc, ◌+◌, ◌<◌, ◌≤◌, false, ◌⊎◌, List, [], length, Some, sym, refl, ap, ◌∙◌, subst, inl, inr, zero-le, arith, below_more}
+use Rattle.std.proofs.Common.{◌≡◌, ℕ, zero, suc, ◌+◌, ◌-◌, ◌<◌, ◌≤◌, false, ◌⊎◌, length, Some, sym, ap, ◌∙◌, subst, inl, inr, arith, below_more}
 use Rattle.std.proofs.lemmas.Bool.{cases_lt, both_ways}
 use Rattle.space.specs.Meaning.{Meaning, Lawful}
-use Rattle.space.specs.Paths.{Leads, Distance, Unmet, Counted}
+use Rattle.space.specs.Paths.{Distance, Unmet, Counted}
 use Rattle.space.specs.Rows.{Held}
 use Rattle.space.proofs.Paths.{Steps, leads_steps, steps_leads, least_steps, distance_steps, solves_leads}
 use Rattle.bfs.specs.declared.table.Link.{Link}
-use Rattle.bfs.specs.Tables.{origin, Table}
+use Rattle.bfs.specs.Tables.{Table}
 use Rattle.bfs.specs.Progress.{Stage}
 
-module _ {N : Type 0} (m : Meaning N) (R : ℕ → N) (L : ℕ → Link) (used e last row k : ℕ) (st : Stage m R L used e last row k) where
+module _ {N : Type 0} {m : Meaning N} {R : ℕ → N} {L : ℕ → Link} {used e last row k : ℕ} (st : Stage m R L used e last row k) where
   -- a row two or more nearer than e has made its moves
   before : (i : ℕ) → i < used → (L i).distance + 1 < e → i < row
-  before i h l = go (cases_lt i row) (cases_lt i last)
-    where
-      go : (i < row) ⊎ (row ≤ i) → (i < last) ⊎ (last ≤ i) → i < row
-      go (inl p) q = p
-      go (inr p) (inl q) = absurd (omega (arith, st.here i p q))
-      go (inr p) (inr q) = absurd (omega (arith, st.high i q h))
+  before i h l =
+      let near : row ≤ i → i < last → (L i).distance + 1 ≡ e = st.here i in
+      let far : last ≤ i → (L i).distance ≡ e = λ q. st.high i q h in
+      grind arith
 
   -- a row's distance is no more than the steps to its node
   pub row_least : (i n : ℕ) (a : N) → i < used → R i ≡ a → Steps m n a → (L i).distance ≤ n
   row_least i n a h q s = least_steps m a (L i).distance n (subst (λ (y : N). Distance m y (L i).distance) q (st.table.far i h)) s
 
+  -- where the rows nearer than d have made their moves, every node up to distance d is held
+  pub within_held : (d : ℕ) → ((i j : ℕ) (b : N) → i < used → (L i).distance < d → m.next (R i) j ≡ Some b → Held R used b)
+      → (n : ℕ) (a : N) → Steps m n a → n ≤ d → Held R used a
+  within_held d made zero a s l = (0, st.some, st.table.first st.some ∙ sym s)
+  within_held d made (suc n) a (c, j, s, x) l =
+      let h = within_held d made n c s (omega arith) in
+      let f = row_least h.0 n c h.1 h.2 s in
+      made h.0 j a h.1 (omega arith) (ap (λ (y : N). m.next y j) h.2 ∙ x)
+
   -- every node nearer than e is held
   pub nearer_held : (n : ℕ) (a : N) → Steps m n a → n < e → Held R used a
-  nearer_held zero a s l = (0, st.some, st.table.first st.some ∙ sym s)
-  nearer_held (suc n) a (c, j, s, x) l =
-      let h = nearer_held n c s (omega arith) in
-      let f = row_least h.0 n c h.1 h.2 s in
-      st.done h.0 j a (before h.0 h.1 (omega arith)) (ap (λ (y : N). m.next y j) h.2 ∙ x)
+  nearer_held n a s l = within_held (e - 1) (λ i j b h g. st.done i j b (before i h (omega arith))) n a s (omega arith)
 
   -- no target is nearer than e
   pub stage_unmet : Unmet m e
-  stage_unmet ks y = go (cases_lt (length ks) e)
-    where
-      below : (i : ℕ) → i < used → (L i).distance < e → (i < last) ⊎ (last ≤ i) → i < last
-      below i h l (inl q) = q
-      below i h l (inr q) = absurd (omega (arith, st.high i q h))
-
-      go : (length ks < e) ⊎ (e ≤ length ks) → e ≤ length ks
-      go (inr p) = p
-      go (inl p) =
-          let t = solves_leads m ks y in
-          let s = leads_steps m ks t.0 t.1 in
-          let h = nearer_held (length ks) t.0 s p in
-          let f = row_least h.0 (length ks) t.0 h.1 h.2 s in
-          let g : h.0 < last = below h.0 h.1 (omega arith) (cases_lt h.0 last) in
-          absurd (both_ways (m.target t.0) (ap m.target (sym h.2) ∙ st.missed h.0 g) t.2)
+  stage_unmet ks y = elim (cases_lt (length ks) e) [
+    | inl p ↦
+        let t = solves_leads m ks y in
+        let s = leads_steps m ks t.0 t.1 in
+        let h = nearer_held (length ks) t.0 s p in
+        let f = row_least h.0 (length ks) t.0 h.1 h.2 s in
+        let far : last ≤ h.0 → (L h.0).distance ≡ e = λ q. st.high h.0 q h.1 in
+        let g : h.0 < last = grind arith in
+        absurd (both_ways (m.target t.0) (ap m.target (sym h.2) ∙ st.missed h.0 g) t.2)
+    | inr p ↦ p
+  ]
 
   -- no row is farther than e
   pub at_most : (i : ℕ) → i < used → (L i).distance ≤ e
-  at_most i h = go (cases_lt i last)
-    where
-      go : (i < last) ⊎ (last ≤ i) → (L i).distance ≤ e
-      go (inl q) = omega (arith, st.low i q)
-      go (inr q) = omega (arith, st.high i q h)
+  at_most i h =
+      let near : i < last → (L i).distance < e = st.low i in
+      let far : last ≤ i → (L i).distance ≡ e = λ q. st.high i q h in
+      grind arith
 
   -- a node at distance e or less is counted
-  pub near_counted : (a : N) (d : ℕ) → Distance m a d → d ≤ e → Counted m a
-  near_counted a d f l =
+  pub near_counted : {a : N} {d : ℕ} → Distance m a d → d ≤ e → Counted m a
+  near_counted f l =
       let p = f.some in record { by = p.0; leads = p.2; short = λ ks y. omega (arith, stage_unmet ks y, p.1) }
 
   -- every row holds a counted node
   pub stage_counted : (i : ℕ) → i < used → Counted m (R i)
-  stage_counted i h = near_counted (R i) (L i).distance (st.table.far i h) (at_most i h)
+  stage_counted i h = near_counted (st.table.far i h) (at_most i h)
 
   -- what the next move finds, if no row holds it, is at distance e
-  pub new_far : (b : N) → row < last → m.next (R row) k ≡ Some b → (Held R used b → ⊥) → Distance m b e
-  new_far b l x out =
+  pub new_far : {b : N} → row < last → m.next (R row) k ≡ Some b → (Held R used b → ⊥) → Distance m b e
+  new_far {b} l x out =
       let f = st.table.far row (omega (arith, st.last_used)) in
       let q : (L row).distance + 1 ≡ e = st.here row (omega arith) l in
       let p = steps_leads m (suc (L row).distance) b (R row, k, distance_steps m (R row) (L row).distance f, x) in
       record {
         some = (p.0, omega (arith, p.1), p.2);
-        least = λ ks le. least ks le (cases_lt (length ks) e);
+        least = λ ks le. elim (cases_lt (length ks) e) [ inl h ↦ absurd (out (nearer_held (length ks) b (leads_steps m ks b le) h)) | inr h ↦ h ];
       }
-    where
-      least : (ks : List ℕ) → Leads m ks b → (length ks < e) ⊎ (e ≤ length ks) → e ≤ length ks
-      least ks le (inr p) = p
-      least ks le (inl p) = absurd (out (nearer_held (length ks) b (leads_steps m ks b le) p))
 
   -- the next move finds no new node
   pub passed : ((b : N) → m.next (R row) k ≡ Some b → Held R used b) → Stage m R L used e last row (k + 1)
   passed f = record {
     table = st.table;
     some = st.some;
-    row_last = st.row_last;
     last_used = st.last_used;
     low = st.low;
     here = st.here;
     high = st.high;
-    short = st.short;
     missed = st.missed;
     done = st.done;
     part = λ j c h. below_more (λ j. m.next (R row) j ≡ Some c → Held R used c) k (λ j h. st.part j c h) (f c) j h;
   }
 
 -- ---- a row more
-module _ {N : Type 0} (m : Meaning N) (R R' : ℕ → N) (L L' : ℕ → Link) (used e last row k : ℕ) (st : Stage m R L used e last row k)
+module _ {N : Type 0} {m : Meaning N} {R R' : ℕ → N} {L L' : ℕ → Link} {used e last row k : ℕ} (st : Stage m R L used e last row k)
     (same : (i : ℕ) → i < used → R' i ≡ R i) (samel : (i : ℕ) → i < used → L' i ≡ L i) where
   -- what holds of a row below used
   carried : (P : N → Link → Type 0) (i : ℕ) → i < used → P (R i) (L i) → P (R' i) (L' i)
@@ -107,7 +99,7 @@ module _ {N : Type 0} (m : Meaning N) (R R' : ℕ → N) (L L' : ℕ → Link) (
   kept_held : (u : ℕ) → used ≤ u → (a : N) → Held R used a → Held R' u a
   kept_held u l a (i, h, q) = (i, omega arith, same i h ∙ q)
 
-  module _ (b : N) (n : Link) (l : row < last) (x : m.next (R row) k ≡ Some b) (out : Held R used b → ⊥)
+  module _ {b : N} {n : Link} (l : row < last) (x : m.next (R row) k ≡ Some b) (out : Held R used b → ⊥)
       (newr : R' used ≡ b) (newl : L' used ≡ n) (nd : n.distance ≡ e) (nr : n.row ≡ row) (nv : n.via ≡ k) where
     -- what holds of the new row
     fresh : (P : N → Link → Type 0) → P b n → P (R' used) (L' used)
@@ -135,11 +127,10 @@ module _ {N : Type 0} (m : Meaning N) (R R' : ℕ → N) (L L' : ℕ → Link) (
     via_new = ap (λ (t : Link). t.via) newl ∙ nv
 
     dist_below : (i : ℕ) → i ≤ used → (L' i).distance ≤ (L' used).distance
-    dist_below i h = go (cases_lt i used)
-      where
-        go : (i < used) ⊎ (used ≤ i) → (L' i).distance ≤ (L' used).distance
-        go (inl q) = omega (arith, dist_old i q, at_most m R L used e last row k st i q, dist_new)
-        go (inr q) = let p : i ≡ used = omega arith in omega (arith, ap (λ (y : ℕ). (L' y).distance) p)
+    dist_below i h = elim (cases_lt i used) [
+      | inl q ↦ omega (arith, dist_old i q, at_most st i q, dist_new)
+      | inr q ↦ let p : i ≡ used = omega arith in omega (arith, ap (λ (y : ℕ). (L' y).distance) p)
+    ]
 
     nearer_new : (L' (L' used).row).distance + 1 ≡ (L' used).distance
     nearer_new =
@@ -163,7 +154,7 @@ module _ {N : Type 0} (m : Meaning N) (R R' : ℕ → N) (L L' : ℕ → Link) (
           apart = λ i j lt h. below_more (λ j. i < j → R' i ≡ R' j → ⊥) used (λ j h lt q. t.apart i j lt h (sym (same i (omega arith)) ∙ q ∙ same j h))
               (λ lt q. out (i, lt, sym (same i lt) ∙ q ∙ newr)) j h lt;
           far = below_more (λ i. Distance m (R' i) (L' i).distance) used (λ i h. carried (λ r s. Distance m r s.distance) i h (t.far i h))
-              (fresh (λ r s. Distance m r s.distance) (subst (λ (d : ℕ). Distance m b d) (sym nd) (new_far m R L used e last row k st b l x out)));
+              (fresh (λ r s. Distance m r s.distance) (subst (λ (d : ℕ). Distance m b d) (sym nd) (new_far st l x out)));
           rising = λ i j le h. below_more (λ j. i ≤ j → (L' i).distance ≤ (L' j).distance) used
               (λ j h le. omega (arith, dist_old i (omega arith), dist_old j h, t.rising i j le h)) (dist_below i) j h le;
           behind = λ i p h. below_more (λ i. 0 < i → (L' i).row < i) used (λ i h p. omega (arith, row_old i h, t.behind i p h))
@@ -181,13 +172,10 @@ module _ {N : Type 0} (m : Meaning N) (R R' : ℕ → N) (L L' : ℕ → Link) (
         let u : last ≤ used = st.last_used in record {
           table = grown;
           some = omega arith;
-          row_last = st.row_last;
           last_used = omega arith;
           low = λ i h. omega (arith, dist_old i (omega arith), st.low i h);
           here = λ i g h. omega (arith, dist_old i (omega arith), st.here i g h);
           high = λ i g h. below_more (λ i. last ≤ i → (L' i).distance ≡ e) used (λ i h g. dist_old i h ∙ st.high i g h) (λ _. dist_new) i h g;
-          short = below_more (λ i. (L' i).distance ≤ i) used (λ i h. omega (arith, dist_old i h, st.short i h))
-              (omega (arith, dist_new, st.here row (omega arith) l, st.short row row_used, row_used));
           missed = λ i h. ap m.target (same i (omega arith)) ∙ st.missed i h;
           done = λ i j c h y. kept_held (used + 1) (omega arith) c (st.done i j c h (ap (λ (r : N). m.next r j) (sym (same i (omega (arith, row_used)))) ∙ y));
           part = λ j c h y. below_more (λ j. m.next (R' row) j ≡ Some c → Held R' (used + 1) c) k
@@ -196,17 +184,15 @@ module _ {N : Type 0} (m : Meaning N) (R R' : ℕ → N) (L L' : ℕ → Link) (
         }
 
 -- ---- all moves of a row are made
-module _ {N : Type 0} (m : Meaning N) (law : Lawful m) (R : ℕ → N) (L : ℕ → Link) (used e last row : ℕ) (l : row < last) (st : Stage m R L used e last row m.count) where
+module _ {N : Type 0} {m : Meaning N} (law : Lawful m) {R : ℕ → N} {L : ℕ → Link} {used e last row : ℕ} (l : row < last) (st : Stage m R L used e last row m.count) where
   pub finished : Stage m R L used e last (row + 1) 0
   finished = record {
     table = st.table;
     some = st.some;
-    row_last = omega arith;
     last_used = st.last_used;
     low = st.low;
     here = λ i g h. st.here i (omega arith) h;
     high = st.high;
-    short = st.short;
     missed = st.missed;
     done = λ i j b h. below_more (λ i. m.next (R i) j ≡ Some b → Held R used b) row (λ i h. st.done i j b h) (made j b (cases_lt j m.count)) i h;
     part = λ j b h. absurd (omega arith);
@@ -217,17 +203,15 @@ module _ {N : Type 0} (m : Meaning N) (law : Lawful m) (R : ℕ → N) (L : ℕ 
       made j b (inr h) x = let n = law.past (R row) j h in let z : ◌≡◌ {A = ℕ} 0 1 = cc in absurd (omega arith)
 
 -- ---- all moves of a layer are made, and the next layer holds no target
-module _ {N : Type 0} (m : Meaning N) (R : ℕ → N) (L : ℕ → Link) (used e last : ℕ) (st : Stage m R L used e last last 0) where
+module _ {N : Type 0} {m : Meaning N} {R : ℕ → N} {L : ℕ → Link} {used e last : ℕ} (st : Stage m R L used e last last 0) where
   pub layered : ((i : ℕ) → last ≤ i → i < used → m.target (R i) ≡ false) → Stage m R L used (e + 1) used last 0
   layered f = record {
     table = st.table;
     some = st.some;
-    row_last = st.last_used;
     last_used = omega arith;
-    low = λ i h. omega (arith, at_most m R L used e last last 0 st i h);
+    low = λ i h. omega (arith, at_most st i h);
     here = λ i g h. omega (arith, st.high i g h);
     high = λ i g h. absurd (omega arith);
-    short = st.short;
     missed = λ i h. missed i h (cases_lt i last);
     done = st.done;
     part = λ j b h. absurd (omega arith);
@@ -236,39 +220,3 @@ module _ {N : Type 0} (m : Meaning N) (R : ℕ → N) (L : ℕ → Link) (used e
       missed : (i : ℕ) → i < used → (i < last) ⊎ (last ≤ i) → m.target (R i) ≡ false
       missed i h (inl g) = st.missed i g
       missed i h (inr g) = f i g h
-
--- ---- the start is the first row
-module _ {N : Type 0} (m : Meaning N) (R : ℕ → N) (L : ℕ → Link) (q : R 0 ≡ m.start) (p : L 0 ≡ origin) where
-  start_far : (i : ℕ) → i < 1 → Distance m (R i) (L i).distance
-  start_far zero h =
-      subst (λ (a : N). Distance m a (L 0).distance) (sym q)
-      (subst (λ (t : Link). Distance m m.start t.distance) (sym p) (record { some = ([], refl, refl); least = λ ks _. zero-le }))
-  start_far (suc i) h = absurd (omega arith)
-
-  start_near : (i : ℕ) → i < 1 → (L i).distance ≡ 0
-  start_near zero h = ap (λ (t : Link). t.distance) p
-  start_near (suc i) h = absurd (omega arith)
-
-  pub begun : Stage m R L 1 0 0 0 0
-  begun = record {
-    table = record {
-      first = λ _. q;
-      first_link = λ _. p;
-      apart = λ i j lt h. absurd (omega arith);
-      far = start_far;
-      rising = λ i j l h. omega (arith, start_near i (omega arith), start_near j h);
-      behind = λ i g h. absurd (omega arith);
-      nearer = λ i g h. absurd (omega arith);
-      via = λ i g h. absurd (omega arith);
-    };
-    some = omega arith;
-    row_last = omega arith;
-    last_used = omega arith;
-    low = λ i h. absurd (omega arith);
-    here = λ i g h. absurd (omega arith);
-    high = λ i g h. start_near i h;
-    short = λ i h. omega (arith, start_near i h);
-    missed = λ i h. absurd (omega arith);
-    done = λ i j b h. absurd (omega arith);
-    part = λ j b h. absurd (omega arith);
-  }

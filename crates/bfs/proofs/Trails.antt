@@ -26,7 +26,7 @@ trail_more L d i at plan whole h g l q =
     trail_suc L d (i - 1) at plan whole (omega arith) l (q ∙ ap (λ (x : ℕ). trail L x at ++ take (d - x) (drop x plan)) p)
 
 -- ---- the links of a table
-module _ {N : Type 0} (m : Meaning N) (R : ℕ → N) (L : ℕ → Link) (used : ℕ) (t : Table m R L used) where
+module _ {N : Type 0} {m : Meaning N} {R : ℕ → N} {L : ℕ → Link} {used : ℕ} (t : Table m R L used) where
   not_first : (row : ℕ) → row < used → 0 < (L row).distance → 0 < row
   not_first zero h l = absurd (omega (arith, ap (λ (x : Link). x.distance) (t.first_link h)))
   not_first (suc row) h l = omega arith
@@ -50,8 +50,8 @@ module _ {N : Type 0} (m : Meaning N) (R : ℕ → N) (L : ℕ → Link) (used :
       let i = trail_leads d (L row).row (omega (arith, t.behind row p h)) (omega (arith, t.nearer row p h)) in
       leads_snoc m (trail L d (L row).row) (L row).via (R (L row).row) (R row) i (t.via row p h)
 
-  pub reached : (row : ℕ) → row < used → m.target (R row) ≡ true → Nearest m (L row).distance → Reached m L used row
-  reached row h y n = record {
+  pub reached : {row : ℕ} → row < used → m.target (R row) ≡ true → Nearest m (L row).distance → Reached m L used row
+  reached {row} h y n = record {
     within = h;
     nearest = n;
     leads = leads_solves m (trail L (L row).distance row) (R row) (trail_leads (L row).distance row h refl) y;

@@ -1,21 +1,14 @@
 -- How far a search has come: what the contracts inside this crate speak of. Assumes nothing.
-use Rattle.std.specs.Prelude.{◌≡◌, ℕ, zero, suc, ◌+◌, ◌<◌, ◌≤◌, Bool, true, false, List, [], ◌∷◌, ◌++◌, length, Some, slice_index_or}
+use Rattle.std.specs.Prelude.{◌≡◌, ℕ, zero, suc, ◌+◌, ◌<◌, ◌≤◌, true, false, List, [], ◌∷◌, ◌++◌, length, take, Some, None, Option, Ok, Err, Result, slice_index_or, slice_set}
+use Rattle.fault.specs.declared.Fault.{Fault}
+use Rattle.fault.specs.declared.Fault.TheVariants.{TooFewRows, TooFewPlaces}
 use Rattle.space.specs.Meaning.{Meaning}
 use Rattle.space.specs.Paths.{solves, Distance, Nearest, Hopeless, Counted}
-use Rattle.space.specs.Rows.{node_at, Held, Count, More, Closed}
+use Rattle.space.specs.Rows.{node_at, Held, More, Closed}
 use Rattle.bfs.specs.declared.table.Link.{Link}
 use Rattle.bfs.specs.declared.table.NodeTable.{NodeTable}
-use Rattle.bfs.specs.declared.table.Explored.{Explored}
-use Rattle.bfs.specs.declared.table.Explored.TheVariants.{Target, All, Short}
+use Rattle.bfs.specs.Answers.{tables, Filled, Overfilled}
 use Rattle.bfs.specs.Tables.{Table, origin, link_at, Past}
-use Rattle.bfs.specs.Answers.{Tables, Filled, Overfilled}
-
--- the room that a table has
-pub record Room {N : Type 0} (t : NodeTable N) : Type 0 where
-  pub used_fits : t.used ≤ t.capacity
-  pub rows_fit : t.capacity ≤ length t.rows.now
-  pub links_fit : t.capacity ≤ length t.links.now
-  pub few : t.capacity ≤ 65536
 
 -- the places below u and those from u' on are as they were
 pub record Grew {A : Type 0} (d : A) (u u' : ℕ) (xs xs' : List A) : Type 0 where
@@ -23,24 +16,32 @@ pub record Grew {A : Type 0} (d : A) (u u' : ℕ) (xs xs' : List A) : Type 0 whe
   pub same : (i : ℕ) → i < u → slice_index_or xs' i d ≡ slice_index_or xs i d
   pub past : Past u' xs xs'
 
--- rows were added to a table, and nothing else was done to it
+-- rows were added to a table over the same slices, and nothing else was done to it
 pub record Grown {N : Type 0} (m : Meaning N) (t t' : NodeTable N) : Type 0 where
+  pub rows_slice : t'.rows.ghost_name ≡ t.rows.ghost_name
+  pub links_slice : t'.links.ghost_name ≡ t.links.ghost_name
   pub rows_grew : Grew m.start t.used t'.used t.rows.now t'.rows.now
   pub links_grew : Grew origin t.used t'.used t.links.now t'.links.now
   pub capacity_same : t'.capacity ≡ t.capacity
-  pub room : Room t'
+
+-- the next row was filled, and nothing else was done
+pub record Pushed {N : Type 0} (t t' : NodeTable N) (node : N) (link : Link) : Type 0 where
+  pub rows_slice : t'.rows.ghost_name ≡ t.rows.ghost_name
+  pub links_slice : t'.links.ghost_name ≡ t.links.ghost_name
+  pub capacity_same : t'.capacity ≡ t.capacity
+  pub used : t'.used ≡ t.used + 1
+  pub rows : t'.rows.now ≡ slice_set t.rows.now t.used node
+  pub links : t'.links.now ≡ slice_set t.links.now t.used link
 
 -- The rows from last on are at distance e, the rows from row to last one nearer, and those below row nearer than e.
 -- The rows below last are no targets. The moves of the rows below row are made, and of that row those below k.
 pub record Stage {N : Type 0} (m : Meaning N) (R : ℕ → N) (L : ℕ → Link) (used e last row k : ℕ) : Type 0 where
   pub table : Table m R L used
   pub some : 0 < used
-  pub row_last : row ≤ last
   pub last_used : last ≤ used
   pub low : (i : ℕ) → i < last → (L i).distance < e
   pub here : (i : ℕ) → row ≤ i → i < last → (L i).distance + 1 ≡ e
   pub high : (i : ℕ) → last ≤ i → i < used → (L i).distance ≡ e
-  pub short : (i : ℕ) → i < used → (L i).distance ≤ i
   pub missed : (i : ℕ) → i < last → m.target (R i) ≡ false
   pub done : (i j : ℕ) (b : N) → i < row → m.next (R i) j ≡ Some b → Held R used b
   pub part : (j : ℕ) (b : N) → j < k → m.next (R row) j ≡ Some b → Held R used b
@@ -62,10 +63,10 @@ pub record Overfull {N : Type 0} (m : Meaning N) (t : NodeTable N) : Type 0 wher
   pub full : t.used ≡ t.capacity
   pub crowded : Crowded m (node_at m t.rows.now) (link_at t.links.now) t.used
 
--- what some moves leave of a stage: where they failed, the table is full, and too small
-pub record Turned {N : Type 0} (m : Meaning N) (t t' : NodeTable N) (last row k row' k' : ℕ) (r : Bool) : Type 0 where
-  pub made : r ≡ true → At m t last row k → At m t' last row' k'
-  pub full : r ≡ false → At m t last row k → Overfull m t'
+-- what some moves leave of a stage: where they are refused, the table is full, and too small
+pub record Turned {N : Type 0} (m : Meaning N) (t t' : NodeTable N) (last row k row' k' : ℕ) (r : Result (Unit {0}) Fault) : Type 0 where
+  pub made : r ≡ Ok tt → At m t last row k → At m t' last row' k'
+  pub refused : (f : Fault) → r ≡ Err f → (f ≡ TooFewRows) × (At m t last row k → Overfull m t')
 
 -- the rows up to a row, but those at distance 0, are tied to an earlier row one nearer
 pub record Tied (L : ℕ → Link) (row : ℕ) : Type 0 where
@@ -77,11 +78,6 @@ abbrev pub trail : (ℕ → Link) → ℕ → ℕ → List ℕ
 trail L zero row = []
 trail L (suc d) row = trail L d (L row).row ++ ((L row).via ∷ [])
 
--- the rows used hold each counted node once, and nothing else
-pub record Whole {N : Type 0} (m : Meaning N) (R : ℕ → N) (L : ℕ → Link) (used : ℕ) : Type 0 where
-  pub table : Table m R L used
-  pub count : Count m R used
-
 -- a row holds a nearest target, and the links lead to it
 pub record Reached {N : Type 0} (m : Meaning N) (L : ℕ → Link) (used row : ℕ) : Type 0 where
   pub within : row < used
@@ -89,14 +85,20 @@ pub record Reached {N : Type 0} (m : Meaning N) (L : ℕ → Link) (used row : �
   pub leads : solves m (trail L (L row).distance row) ≡ true
   pub tied : Tied L row
 
--- how an exploration ends
-abbrev pub ExploredSo : {N : Type 0} (m : Meaning N) (t : NodeTable N) → Explored → Type 0
-ExploredSo m t (Target row) = Whole m (node_at m t.rows.now) (link_at t.links.now) t.used × Reached m (link_at t.links.now) t.used row
-ExploredSo m t All = Whole m (node_at m t.rows.now) (link_at t.links.now) t.used × Hopeless m × Closed m (node_at m t.rows.now) t.used
-ExploredSo m t Short = Overfull m t
+-- how an exploration ends: at the row of a nearest target, with no node left, or short of rows
+abbrev pub ExploredSo : {N : Type 0} (m : Meaning N) (t t' : NodeTable N) → Result (Option ℕ) Fault → Type 0
+ExploredSo m t t' (Ok (Some row)) =
+    Filled m (tables t.rows.now t.links.now) (tables t'.rows.now t'.links.now) t'.used × Reached m (link_at t'.links.now) t'.used row
+ExploredSo m t t' (Ok None) =
+    Filled m (tables t.rows.now t.links.now) (tables t'.rows.now t'.links.now) t'.used × Hopeless m × Closed m (node_at m t'.rows.now) t'.used
+ExploredSo m t t' (Err f) = (f ≡ TooFewRows) × Overfilled m (tables t.rows.now t.links.now) (tables t'.rows.now t'.links.now)
 
--- what an exploration leaves in the tables, with the rows used
-abbrev pub TablesSo : {N : Type 0} (m : Meaning N) (t t' : Tables N) → ℕ → Explored → Type 0
-TablesSo m t t' used (Target row) = Filled m t t' used × (used ≤ length t'.links) × Reached m (link_at t'.links) used row
-TablesSo m t t' used All = Filled m t t' used × Hopeless m × Closed m (node_at m t'.nodes) used
-TablesSo m t t' used Short = Overfilled m t t'
+-- the links of a table lead back from a row
+pub record Readable {N : Type 0} (t : NodeTable N) (row : ℕ) : Type 0 where
+  pub within : row < t.used
+  pub tied : Tied (link_at t.links.now) row
+
+-- the moves that lead to a row stand in the first places of a plan slice; or they are too many, and the slice is as it was
+abbrev pub Written : (ℕ → Link) → ℕ → List ℕ → List ℕ → Result ℕ Fault → Type 0
+Written L row old new (Ok d) = (d ≡ (L row).distance) × (d ≤ length old) × (take d new ≡ trail L d row) × Past d old new
+Written L row old new (Err f) = (f ≡ TooFewPlaces) × (length old < (L row).distance) × (new ≡ old)

@@ -10,7 +10,7 @@ mod table;
 use fault::Fault;
 use space::Space;
 pub use table::Link;
-use table::{Explored, fill, read_back};
+use table::NodeTable;
 
 // The most rows that a search fills.
 pub const MAX_ROWS: usize = 65_536;
@@ -38,19 +38,14 @@ pub fn find_plan<S: Space>(
 ) -> Result<Outcome, Fault>
     ensures { Answered (S.Space.meaning space.now) (buffers nodes.old links.old plan.old) (buffers nodes.new links.new plan.new) result }
 {
-    let (explored, used) = fill(space, nodes, links);
-    match explored {
-        Explored::Short => Err(Fault::TooFewRows),
-        Explored::All => Ok(Outcome::NoPlan(used)),
-        Explored::Target(row) => {
-            let length = links[row].distance as usize;
-            if plan.len() < length {
-                return Err(Fault::TooFewPlaces);
-            }
-            read_back(links, row, plan);
-            Ok(Outcome::Plan((length, used)))
-        }
-    }
+    let mut table = NodeTable::new(nodes, links);
+    let target = table.explore(space)?;
+    let used = table.used();
+    let Some(row) = target else {
+        return Ok(Outcome::NoPlan(used));
+    };
+    let length = table.read_back(row, plan)?;
+    Ok(Outcome::Plan((length, used)))
 }
 
 // Every answer that meets the search's contract is exact, in every space: the space, the capacity and the places alone decide it.

@@ -1,5 +1,5 @@
 -- The first rows of a list.
-use Rattle.std.proofs.Common.{◌≡◌, ℕ, ◌<◌, ◌≤◌, List, length, get_or, take, sym, ap, ◌∙◌, arith}
+use Rattle.std.proofs.Common.{◌≡◌, ℕ, ◌<◌, ◌≤◌, List, length, get_or, take, ap, ◌∙◌, arith}
 use Rattle.std.proofs.lemmas.List.{get_or-take, length-take-le}
 use Rattle.space.specs.Meaning.{Meaning}
 use Rattle.space.specs.Rows.{node_at, Held}
@@ -11,11 +11,6 @@ module _ {N : Type 0} (m : Meaning N) (rows front : List N) (n : ℕ) (q : front
   -- they hold what the list holds there
   pub front_node : (i : ℕ) → i < n → node_at m front i ≡ node_at m rows i
   front_node i h = ap (λ (z : List N). get_or z i m.start) q ∙ get_or-take n rows i m.start h
-
-  pub front_held : (a : N) → Held (node_at m front) (length front) a → Held (node_at m rows) n a
-  front_held a (i, h, e) =
-      let k : i < n = omega (arith, front_long) in
-      (i, k, sym (front_node i k) ∙ e)
 
   pub held_front : (a : N) → Held (node_at m rows) n a → Held (node_at m front) (length front) a
   held_front a (i, h, e) = (i, omega (arith, front_long), front_node i h ∙ e)

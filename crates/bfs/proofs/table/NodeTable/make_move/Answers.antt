@@ -1,37 +1,19 @@
-use Rattle.std.proofs.Common.{sym, refl, ◌∙◌, rules}
-use Rattle.bfs.proofs.Turns.{grown_none, turned_none, turned_held, turned_full, grown_push, turned_push}
+use Rattle.std.proofs.Common.{refl, sym, ◌∙◌}
+use Rattle.std.proofs.lemmas.Result.{err_from_is_err_and}
+use Rattle.bfs.proofs.Turns.{turned_none, turned_held, turned_full, turned_push}
 use Rattle.bfs.proofs.table.NodeTable.make_move.Goals as goal
 
-pub returns-in_default : goal.returns-in_default
-returns-in_default g c = record {
-  same = search rules;
-  also = search rules;
-  grown = grown_none _ _ c.requires.room;
-  turned = λ last l. turned_none _ _ last _ _ _ c.next_of.ensures c.in_default.is;
-}
+pub returns-in_default-clause-turned : goal.returns-in_default-clause-turned
+returns-in_default-clause-turned g c last l = turned_none (sym c.next_of.ensures ∙ c.in_default.is)
 
-pub returns-then-has : goal.returns-then-has
-returns-then-has g c = record {
-  same = search rules;
-  also = search rules;
-  grown = grown_none _ _ c.requires.room;
-  turned = λ last l. turned_held _ _ last _ _ _ (sym c.next_of.ensures ∙ c.in-Some.is) (c.if-has.ensures.found refl);
-}
+pub returns-then-has-clause-turned : goal.returns-then-has-clause-turned
+returns-then-has-clause-turned g c last l = turned_held (sym c.next_of.ensures ∙ c.in-Some.is) (c.if-has.ensures.found refl)
 
-pub returns-then-self : goal.returns-then-self
-returns-then-self g c = record {
-  same = search rules;
-  also = search rules;
-  grown = grown_none _ _ c.requires.room;
-  turned = λ last l. turned_full _ _ last _ _ _ l (sym c.next_of.ensures ∙ c.in-Some.is) (c.if-has.ensures.missed refl) c.if-self.true;
-}
+pub returns-in_err-check_room-clause-turned : goal.returns-in_err-check_room-clause-turned
+returns-in_err-check_room-clause-turned g c last l =
+    let p = err_from_is_err_and c.from_residual.result c.from_residual.ensures.1 in
+    rw p.1 (turned_full l (sym c.next_of.ensures ∙ c.in-Some.is) (c.if-has.ensures.missed refl) (rw p.2 (c.in_err-check_room.ensures.full _ refl)))
 
-pub returns : goal.returns
-returns g c = record {
-  same = search rules;
-  also = search rules;
-  grown = grown_push _ _ _ _ _ c.requires.room (search rules) c.push.ensures.rows c.push.ensures.links c.push.ensures.capacity c.push.ensures.used;
-  turned = λ last l. turned_push _ _ _ _ _ c.requires.room (search rules) c.push.ensures.rows c.push.ensures.links c.push.ensures.capacity c.push.ensures.used
-      last _ _ l (sym c.next_of.ensures ∙ c.in-Some.is) (c.if-has.ensures.missed refl)
-      c.onward-link.ensures.0 c.onward-link.ensures.1 c.onward-link.ensures.2;
-}
+pub returns-clause-turned : goal.returns-clause-turned
+returns-clause-turned g c last l =
+    turned_push (c.in_ok-check_room.ensures.room refl) c.push.ensures l (sym c.next_of.ensures ∙ c.in-Some.is) (c.if-has.ensures.missed refl) c.onward-link.ensures
