@@ -1,27 +1,31 @@
 -- The rule of a closed set, row by row and move by move.
-use Rattle.std.proofs.Common.{◌≡◌, ℕ, ◌<◌, ◌≤◌, ◌⊎◌, List, length, get_or, sym, ◌∙◌, subst, inl, inr, arith}
-use Rattle.std.proofs.lemmas.List.{get_or_read}
+use Rattle.std.proofs.Common.{◌≡◌, ℕ, ◌<◌, ◌≤◌, true, false, List, length, Some, None, Option, refl, inl, inr, zero-le, arith}
+use Rattle.std.specs.Option.{MatchOption}
 use Rattle.std.proofs.lemmas.Bool.{cases_lt}
+use Rattle.fault.specs.declared.Fault.{Fault}
+use Rattle.fault.specs.declared.Fault.TheVariants.{NotNode, TargetRow, NextMissing}
 use Rattle.space.specs.Meaning.{Meaning, Lawful}
-use Rattle.space.specs.Rows.{node_at, Held}
-use Rattle.closed.specs.Check.{Keeps, Started}
+use Rattle.space.specs.Rows.{node_at}
+use Rattle.closed.specs.Check.{Nodes, Free, Keeps, Misses, FirstMove, NoNodeAt, TargetAt, MissingAt}
 
 module _ {N : Type 0} (m : Meaning N) (rows : List N) where
-  -- the moves below the count are all that are allowed
-  pub keeps_all : Lawful m → (a : N) (n : ℕ) → m.count ≤ n → ((j : ℕ) → j < n → Keeps m rows a j) → (j : ℕ) → Keeps m rows a j
-  keeps_all law a n l f j = go (cases_lt j n)
-    where
-      go : (j < n) ⊎ (n ≤ j) → Keeps m rows a j
-      go (inl h) = f j h
-      go (inr h) = let o = law.past a j (omega arith) in record { held = λ b x. let z : ◌≡◌ {A = ℕ} 0 1 = cc in absurd (omega arith) }
+  -- of the moves below the count, which are all that are allowed, the first whose next node is missing is the first of all
+  pub first_move : Lawful m → (a : N) (n : ℕ) → n ≡ m.count → (r : Option ℕ)
+      → MatchOption r ((k : ℕ) → 0 ≤ k → k < n → Keeps m rows a k) (λ i. (0 ≤ i) × (i < n) × Misses m rows a i × ((k : ℕ) → 0 ≤ k → k < i → Keeps m rows a k))
+      → FirstMove m rows a r
+  first_move law a n q (Some k) (_, _, x, f) = (x, λ j h. f j zero-le h)
+  first_move law a n q None f = λ j. elim (cases_lt j n) [
+    | inl h ↦ f j zero-le h
+    | inr h ↦ record { held = λ b x. let o = law.past a j (omega arith) in absurd cc }
+  ]
 
-  -- what holds of a row that was read
-  pub at_row : (P : N → Type 0) (i : ℕ) (x : N) → i < length rows → x ≡ get_or rows i x → P x → P (node_at m rows i)
-  at_row P i x h e p = subst P (get_or_read rows i x h e m.start) p
+  -- the first break that a test found, by the fault that names it
+  pub no_node_at : {i : ℕ} {f : Fault} → i < length rows → (f ≡ NotNode i) × (m.node (node_at m rows i) ≡ false) → Nodes m rows i → NoNodeAt m rows f
+  no_node_at h (e, x) n = rw e (record { says = refl; within = h; no_node = x; first = n })
 
-  -- the start as it was answered
-  pub at_start : (s : N) → s ≡ m.start → Held (node_at m rows) (length rows) s → Started m rows
-  at_start s q (i, h, e) = (i, h, e ∙ q)
+  pub target_at : {i : ℕ} {f : Fault} → i < length rows → (f ≡ TargetRow i) × (m.target (node_at m rows i) ≡ true) → Free m rows i → TargetAt m rows f
+  target_at h (e, x) l = rw e (record { says = refl; within = h; target = x; first = l })
 
-  pub start_at : (s : N) → s ≡ m.start → Started m rows → Held (node_at m rows) (length rows) s
-  start_at s q (i, h, e) = (i, h, e ∙ sym q)
+  pub missing_at : {i : ℕ} {f : Fault} → i < length rows → ((k : ℕ) × (f ≡ NextMissing i k) × FirstMove m rows (node_at m rows i) (Some k))
+      → ((h j : ℕ) → h < i → Keeps m rows (node_at m rows h) j) → MissingAt m rows f
+  missing_at h (k, e, x) o = rw e (record { says = refl; within = h; move_missing = x; first = o })

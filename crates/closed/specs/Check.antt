@@ -65,21 +65,26 @@ module _ {N : Type 0} (m : Meaning N) (rows : List N) where
   Checked (Ok _) = Closed m (node_at m rows) (length rows)
   Checked (Err f) = Refused f
 
-  -- what the parts of the check answer: the first row, or row and move, that breaks a rule, or none
-  abbrev pub FirstNoNode : Option ℕ → Type 0
-  FirstNoNode (Some i) = (i < length rows) × (m.node (node_at m rows i) ≡ false) × Nodes i
-  FirstNoNode None = Nodes (length rows)
-
-  abbrev pub FirstTarget : Option ℕ → Type 0
-  FirstTarget (Some i) = (i < length rows) × (m.target (node_at m rows i) ≡ true) × Free i
-  FirstTarget None = Free (length rows)
-
+  -- the first move from a node whose next node is no row, or none
   abbrev pub FirstMove : N → Option ℕ → Type 0
   FirstMove a (Some k) = Misses a k × ((j : ℕ) → j < k → Keeps a j)
   FirstMove a None = (j : ℕ) → Keeps a j
 
-  abbrev pub FirstMissing : Option (ℕ × ℕ) → Type 0
-  FirstMissing (Some p) =
-      (p.0 < length rows) × Misses (node_at m rows p.0) p.1 × ((j : ℕ) → j < p.1 → Keeps (node_at m rows p.0) j)
-      × ((h j : ℕ) → h < p.0 → Keeps (node_at m rows h) j)
-  FirstMissing None = (i j : ℕ) → i < length rows → Keeps (node_at m rows i) j
+  -- a fault names the first row that is no node, that is a target, or from which a next node is missing
+  pub record NoNodeAt (f : Fault) : Type 0 where
+    pub says : refusal f ≡ refused 18 Checker (At (row f))
+    pub within : row f < length rows
+    pub no_node : m.node (node_at m rows (row f)) ≡ false
+    pub first : Nodes (row f)
+
+  pub record TargetAt (f : Fault) : Type 0 where
+    pub says : refusal f ≡ refused 20 Checker (At (row f))
+    pub within : row f < length rows
+    pub target : m.target (node_at m rows (row f)) ≡ true
+    pub first : Free (row f)
+
+  pub record MissingAt (f : Fault) : Type 0 where
+    pub says : refusal f ≡ refused 21 Checker (RowMove (row f) (move f))
+    pub within : row f < length rows
+    pub move_missing : FirstMove (node_at m rows (row f)) (Some (move f))
+    pub first : (i j : ℕ) → i < row f → Keeps (node_at m rows i) j

@@ -1,10 +1,12 @@
-use Rattle.std.proofs.Common.{refl, arith, below_more}
-use Rattle.closed.specs.Check.{Keeps}
-use Rattle.closed.proofs.Breaks.{keeps_all}
+use Rattle.std.proofs.Common.{rules}
+use Rattle.std.proofs.lemmas.Iterator.{first_from_Range}
+use Rattle.closed.specs.Check.{Keeps, Misses}
+use Rattle.closed.proofs.Breaks.{first_move}
 use Rattle.closed.proofs.missing_move.Goals as goal
 
-pub loop-by-preserved : goal.loop-by-preserved
-loop-by-preserved g c = below_more (λ j. Keeps (g.S.Space.meaning c.args.space.now) c.args.rows.now c.args.from j) _ c.loop-by.invariant (c.if-not-keeps.ensures.kept refl)
-
 pub returns : goal.returns
-returns g c = keeps_all _ _ c.requires _ c.loop-by.by (omega (arith, c.count-by-end.ensures)) c.loop-by.invariant
+returns g c =
+    let m = g.S.Space.meaning c.args.space.now in
+    let rows = c.args.rows.now in
+    first_move m rows c.requires _ _ c.count.ensures _
+    (first_from_Range _ _ _ c.find.result (Misses m rows c.args.from) (Keeps m rows c.args.from) c.find.ensures.ran (λ x q k. search rules) (λ x q k. search rules))
