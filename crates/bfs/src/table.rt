@@ -51,7 +51,6 @@ impl<'a, N: Copy> NodeTable<'a, N> {
     ghost use Rattle.std.specs.Prelude.{true, false, Some, None, Ok};
     ghost use Rattle.fault.specs.declared.Fault.{Fault};
     ghost use Rattle.bfs.specs.Progress.{ExploredSo, Grown, Pushed, Readable, Turned, Written, trail};
-    ghost use Rattle.space.specs.Meaning.{Lawful};
     ghost use Rattle.space.specs.Rows.{node_at, Held};
 
     // A table over the lent slices with no row used.
@@ -136,8 +135,7 @@ impl<'a, N: Copy> NodeTable<'a, N> {
 
     // Makes every move from a row.
     fn expand<S: Space<Node = N>>(&mut self, space: &S, row: usize) -> Result<(), Fault>
-        requires lawful { Lawful (S.Space.meaning space.now) }
-        requires within { row < self.old.used }
+        requires { row < self.old.used }
         ensures grown { Grown (S.Space.meaning space.now) self.old self.new }
         ensures turned { (last : ℕ) → row < last → Turned (S.Space.meaning space.now) self.old self.new last row 0 (row + 1) 0 result }
     {
@@ -154,8 +152,7 @@ impl<'a, N: Copy> NodeTable<'a, N> {
         first: usize,
         last: usize,
     ) -> Result<(), Fault>
-        requires lawful { Lawful (S.Space.meaning space.now) }
-        requires within { (first ≤ last) × (last ≤ self.old.used) }
+        requires { (first ≤ last) × (last ≤ self.old.used) }
         ensures grown { Grown (S.Space.meaning space.now) self.old self.new }
         ensures turned { Turned (S.Space.meaning space.now) self.old self.new last first 0 last 0 result }
     {

@@ -1,4 +1,3 @@
 pub mod Zips
 mod Numbering
-mod Laws
 mod Effects

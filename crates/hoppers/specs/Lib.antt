@@ -1,3 +1,4 @@
 pub mod Levels
 pub mod Moves
 pub mod Setting
+pub mod Laws
