@@ -108,11 +108,11 @@ module _ {N : Type 0} (m : Meaning N) (b b' : Buffers N) where
 
   refused_rows : (f : Fault) → f ≡ TooFewRows → Refused m b b' f → More m (capacity b.rows)
   refused_rows f q (rows_short e x) = x.overfilled.more
-  refused_rows f q (places_short e x) = let o = too_few_places f e in let z : ◌≡◌ {A = ℕ} 0 1 = cc in absurd (omega arith)
+  refused_rows f q (places_short e x) = let o = too_few_places f e in absurd cc
 
   refused_places : (f : Fault) → f ≡ TooFewPlaces → Refused m b b' f
       → (d n : ℕ) × (R : ℕ → N) × Nearest m d × (length b.plan < d) × Count m R n × (n ≤ capacity b.rows)
-  refused_places f q (rows_short e x) = let o = too_few_rows f e in let z : ◌≡◌ {A = ℕ} 0 1 = cc in absurd (omega arith)
+  refused_places f q (rows_short e x) = let o = too_few_rows f e in absurd cc
   refused_places f q (places_short e x) = (x.d, x.used, _, x.nearest, x.over, x.filled.count, x.filled.room)
 
   at_answer : (r s : Result Outcome Fault) → r ≡ s → Answered m b b' r → Answered m b b' s

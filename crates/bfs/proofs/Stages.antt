@@ -200,7 +200,7 @@ module _ {N : Type 0} {m : Meaning N} (law : Lawful m) {R : ℕ → N} {L : ℕ 
     where
       made : (j : ℕ) (b : N) → (j < m.count) ⊎ (m.count ≤ j) → m.next (R row) j ≡ Some b → Held R used b
       made j b (inl h) x = st.part j b h x
-      made j b (inr h) x = let n = law.past (R row) j h in let z : ◌≡◌ {A = ℕ} 0 1 = cc in absurd (omega arith)
+      made j b (inr h) x = let n = law.past (R row) j h in absurd cc
 
 -- ---- all moves of a layer are made, and the next layer holds no target
 module _ {N : Type 0} {m : Meaning N} {R : ℕ → N} {L : ℕ → Link} {used e last : ℕ} (st : Stage m R L used e last last 0) where

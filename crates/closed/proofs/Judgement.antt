@@ -41,12 +41,7 @@ module _ {N : Type 0} (m : Meaning N) (rows : List N) where
 
   -- of two lowest numbers neither is lower
   lowest_one : (i j : ℕ) → (i < j → ⊥) → (j < i → ⊥) → i ≡ j
-  lowest_one i j f g = go (cases_lt i j) (cases_lt j i)
-    where
-      go : (i < j) ⊎ (j ≤ i) → (j < i) ⊎ (i ≤ j) → i ≡ j
-      go (inl a) b = absurd (f a)
-      go (inr a) (inl b) = absurd (g b)
-      go (inr a) (inr b) = omega arith
+  lowest_one i j f g = grind arith
 
   -- two refusals are the same
   refused_one : (f g : Fault) → Refused m rows f → Refused m rows g → f ≡ g

@@ -33,11 +33,11 @@ module _ {N : Type 0} (m : Meaning N) where
   reach (suc n) a = any_move (reach n) a m.count
 
   from_list : (f : N → Bool) (r : Option N) → from_next f r ≡ true → (b : N) × (r ≡ Some b) × (f b ≡ true)
-  from_list f None h = let z : ◌≡◌ {A = ℕ} 0 1 = cc in absurd (omega arith)
+  from_list f None h = absurd cc
   from_list f (Some b) h = (b, refl, h)
 
   any_at : (f : N → Bool) (a : N) (k : ℕ) → any_move f a k ≡ true → (j : ℕ) × (b : N) × (m.next a j ≡ Some b) × (f b ≡ true)
-  any_at f a zero h = let z : ◌≡◌ {A = ℕ} 0 1 = cc in absurd (omega arith)
+  any_at f a zero h = absurd cc
   any_at f a (suc k) h = go (or_cases (from_next f (m.next a k)) (any_move f a k) h) (any_at f a k)
     where
       go : (from_next f (m.next a k) ≡ true) ⊎ (any_move f a k ≡ true) → (any_move f a k ≡ true → (j : ℕ) × (b : N) × (m.next a j ≡ Some b) × (f b ≡ true))
@@ -47,15 +47,10 @@ module _ {N : Type 0} (m : Meaning N) where
 
   at_any : (f : N → Bool) (a : N) (k j : ℕ) (b : N) → j < k → m.next a j ≡ Some b → f b ≡ true → any_move f a k ≡ true
   at_any f a zero j b l x y = absurd (omega arith)
-  at_any f a (suc k) j b l x y = go (cases_eq j k) (λ g. at_any f a k j b g x y)
-    where
-      go : (j ≡ k) ⊎ (j ≡ k → ⊥) → (j < k → any_move f a k ≡ true) → any_move f a (suc k) ≡ true
-      go (inl q) g = or_left (from_next f (m.next a k)) (any_move f a k) (ap (from_next f) (ap (m.next a) (sym q) ∙ x) ∙ y)
-      go (inr q) g = or_right (from_next f (m.next a k)) (any_move f a k) (g (below (cases_lt j k)))
-        where
-          below : (j < k) ⊎ (k ≤ j) → j < k
-          below (inl g) = g
-          below (inr g) = absurd (q (omega arith))
+  at_any f a (suc k) j b l x y = elim (cases_eq j k) [
+    | inl q ↦ or_left (from_next f (m.next a k)) (any_move f a k) (ap (from_next f) (ap (m.next a) (sym q) ∙ x) ∙ y)
+    | inr q ↦ or_right (from_next f (m.next a k)) (any_move f a k) (at_any f a k j b (omega arith) x y)
+  ]
 
   -- the test passes only where there is such a list
   reach_list : (n : ℕ) (a : N) → reach n a ≡ true → (ks : List ℕ) × (length ks ≡ n) × (targeted m (onward m (Some a) ks) ≡ true)
@@ -72,18 +67,22 @@ module _ {N : Type 0} (m : Meaning N) where
     where
       below : (b : N) → m.next a k ≡ Some b → (k < m.count) ⊎ (m.count ≤ k) → k < m.count
       below b x (inl l) = l
-      below b x (inr l) = let n = law.past a k l in let z : ◌≡◌ {A = ℕ} 0 1 = cc in absurd (omega arith)
+      below b x (inr l) = let n = law.past a k l in absurd cc
 
       go : (r : Option N) → m.next a k ≡ r → targeted m (onward m r ks) ≡ true
           → ((b : N) → targeted m (onward m (Some b) ks) ≡ true → reach (length ks) b ≡ true) → any_move (reach (length ks)) a m.count ≡ true
-      go None x t f = let z : ◌≡◌ {A = ℕ} 0 1 = cc in absurd (omega arith)
+      go None x t f = absurd cc
       go (Some b) x t f = at_any (reach (length ks)) a m.count k b (below b x (cases_lt k m.count)) x (f b t)
 
   pub nearest_exists : Lawful m → (ks : List ℕ) → solves m ks ≡ true → (d : ℕ) × Nearest m d
   nearest_exists law ks s =
-      let l = least (λ n. reach n m.start) (length ks) (list_reach law m.start ks s) in
-      (l.0, record { some = reach_list l.0 m.start l.2; least = λ js t. far l.0 l.3 js t (cases_lt (length js) l.0) })
-    where
-      far : (d : ℕ) → ((j : ℕ) → j < d → reach j m.start ≡ false) → (js : List ℕ) → solves m js ≡ true → (length js < d) ⊎ (d ≤ length js) → d ≤ length js
-      far d f js t (inr g) = g
-      far d f js t (inl g) = absurd (both_ways (reach (length js) m.start) (f (length js) g) (list_reach law m.start js t))
+      let l = least (λ n. reach n m.start) (length ks) (list_reach law m.start ks s) in (
+        l.0,
+        record {
+          some = reach_list l.0 m.start l.2;
+          least = λ js t. elim (cases_lt (length js) l.0) [
+            | inl g ↦ absurd (both_ways (reach (length js) m.start) (l.3 (length js) g) (list_reach law m.start js t))
+            | inr g ↦ g
+          ];
+        },
+      )

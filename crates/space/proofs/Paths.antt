@@ -19,7 +19,7 @@ module _ {N : Type 0} (m : Meaning N) where
       go : (r : Option N) → m.next c k ≡ r → onward m r ks ≡ Some a
           → ((b : N) → m.next c k ≡ Some b → onward m (Some b) ks ≡ Some a → Steps m (suc n + length ks) a)
           → Steps m (n + suc (length ks)) a
-      go None x o f = let z : ◌≡◌ {A = ℕ} 0 1 = cc in absurd (omega arith)
+      go None x o f = absurd cc
       go (Some b) x o f = subst (λ (y : ℕ). Steps m y a) (suc-add n (length ks) ∙ sym (add-suc n (length ks))) (f b x o)
 
   -- a list of moves is so many steps
@@ -62,7 +62,7 @@ module _ {N : Type 0} (m : Meaning N) where
   solves_leads ks s = go (onward m (Some m.start) ks) refl s
     where
       go : (r : Option N) → onward m (Some m.start) ks ≡ r → targeted m r ≡ true → (a : N) × Leads m ks a × (m.target a ≡ true)
-      go None e t = let z : ◌≡◌ {A = ℕ} 0 1 = cc in absurd (omega arith)
+      go None e t = absurd cc
       go (Some a) e t = (a, e, t)
 
   -- the two cases of what is counted
