@@ -2,7 +2,8 @@
 use Rattle.std.proofs.Common.{◌≡◌, ℕ, ◌<◌, true, false, eqb, ◌⊎◌, List, [], ◌∷◌, ◌++◌, map, length, take, drop, sym, refl, ap, ◌∙◌, ap₂, inl, inr, arith}
 use Rattle.std.proofs.lemmas.List.{append_assoc, drop_at, length_push, take_at}
 use Rattle.std.proofs.lemmas.Bool.{cases_Bool, eqb-true}
-use Rattle.pieces.specs.Pieces.{onto, pieces}
+use Rattle.std.specs.List.{onto_first}
+use Rattle.pieces.specs.Pieces.{pieces}
 use Rattle.pieces.proofs.Splits.{some_piece}
 use Rattle.lines.specs.Grammar.{behind, joined, lines_text, Lines}
 use Rattle.sheet.specs.Grid.{lines, line_count, words_in}
@@ -13,7 +14,7 @@ behind_joined sep [] h = absurd (omega arith)
 behind_joined sep (p ∷ ps) h = refl
 
 -- a byte in front of the first piece is in front of the joined text
-joined_onto : (sep b : ℕ) (ps : List (List ℕ)) → joined sep (onto b ps) ≡ b ∷ joined sep ps
+joined_onto : (sep b : ℕ) (ps : List (List ℕ)) → joined sep (onto_first b ps) ≡ b ∷ joined sep ps
 joined_onto sep b [] = refl
 joined_onto sep b (p ∷ ps) = refl
 
@@ -27,7 +28,7 @@ joined_pieces sep (b ∷ bs) = go (cases_Bool (eqb b sep)) (joined_pieces sep bs
     go (inr n) e = rw n (joined_onto sep b (pieces sep bs) ∙ ap (λ (z : List ℕ). b ∷ z) e)
 
 -- a byte in front of the first of some pieces and more
-onto_append : (b : ℕ) (ps qs : List (List ℕ)) → 0 < length ps → onto b (ps ++ qs) ≡ onto b ps ++ qs
+onto_append : (b : ℕ) (ps qs : List (List ℕ)) → 0 < length ps → onto_first b (ps ++ qs) ≡ onto_first b ps ++ qs
 onto_append b [] qs h = absurd (omega arith)
 onto_append b (p ∷ ps) qs h = refl
 

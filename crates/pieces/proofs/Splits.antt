@@ -1,8 +1,12 @@
 -- Texts and their pieces.
-use Rattle.std.proofs.Common.{◌≡◌, ℕ, zero, suc, ◌+◌, ◌-◌, ◌<◌, ◌≤◌, Bool, true, false, not, ◌&&◌, eqb, ◌⊎◌, List, [], ◌∷◌, ◌++◌, length, get_or, take, drop, sym, refl, ap, ◌∙◌, subst, inl, inr, arith}
-use Rattle.std.proofs.lemmas.List.{length-append, length-drop, get_or_at, get_or-drop, get_or_append_left, take_at, take_all, drop_more, drop-drop}
-use Rattle.std.proofs.lemmas.Bool.{cases_Bool, cases_lt, cases_eq, eq-eqb, ne_eqb, and_parts}
-use Rattle.pieces.specs.Pieces.{onto, pieces, spanned, place, piece, Ends}
+use Rattle.std.proofs.Common.{◌≡◌, ℕ, zero, suc, ◌+◌, ◌-◌, ◌<◌, ◌≤◌, Bool, true, false, cond, not, ◌&&◌, ◌==◌, eqb, nat_le, ◌⊎◌, List, [], ◌∷◌, ◌++◌, length, get_or, take, drop, sym, refl, ap, ap₂, ◌∙◌, subst, inl, inr, arith}
+use Rattle.std.proofs.lemmas.List.{length-append, length-drop, length-take, get_or_at, get_or-drop, get_or_append_left, take_at, take_all, drop-drop}
+use Rattle.std.proofs.Math.Seq.{drop-append-add}
+use Rattle.std.proofs.lemmas.List.Sums.{count_by-le-length}
+use Rattle.std.proofs.lemmas.List.Splits.{length-slice_split}
+use Rattle.std.proofs.lemmas.Bool.{le-leb, lt-leb, cases_Bool, cases_lt, cases_eq, and_parts}
+use Rattle.pieces.specs.Pieces.{pieces, spanned, place, piece, Ends, placed, pieces_left}
+use Rattle.pieces.specs.declared.Pieces.{Pieces}
 
 -- no byte of the list is the separator
 abbrev pub lacks : ℕ → List ℕ → Bool
@@ -68,6 +72,14 @@ first_piece sep text = go (split sep text)
     go (inl (p, l, t, q)) = rw (q, t) (take_all (length p) p (omega arith))
     go (inr (p, bs, l, t, q)) = rw q (rw t (take_at p (sep ∷ bs) (length p) refl))
 
+-- and is no longer than it
+pub first_inside : (sep : ℕ) (text : List ℕ) → length (piece (pieces sep text) 0) ≤ length text
+first_inside sep text = omega (arith, ap length (first_piece sep text), length-take (length (piece (pieces sep text) 0)) text)
+
+-- what stands behind a piece and its separator
+behind : (sep : ℕ) (p bs : List ℕ) (n : ℕ) → drop (length p + suc n) (p ++ sep ∷ bs) ≡ drop n bs
+behind sep p bs n = drop-append-add p (sep ∷ bs) (suc n)
+
 -- what is left of a text at the beginning of a piece is that piece and those after it
 pub record FromPiece (sep : ℕ) (text : List ℕ) (k : ℕ) : Type 0 where
   pub inside : place (pieces sep text) k ≤ length text
@@ -87,13 +99,7 @@ from_piece sep text (suc k) h = go (split sep text) (λ bs. from_piece sep bs k)
         }
       where
         gone : (n : ℕ) → drop (length p + 1 + n) text ≡ drop n bs
-        gone n =
-            ap (λ (z : List ℕ). drop (length p + 1 + n) z) t ∙ ap (λ (m : ℕ). drop m (p ++ sep ∷ bs)) (omega arith)
-            ∙ sym (drop-drop n (suc (length p)) (p ++ sep ∷ bs)) ∙ ap (drop n) (past p)
-          where
-            past : (p : List ℕ) → drop (suc (length p)) (p ++ sep ∷ bs) ≡ bs
-            past [] = refl
-            past (x ∷ xs) = past xs
+        gone n = ap (λ (z : List ℕ). drop (length p + 1 + n) z) t ∙ ap (λ (m : ℕ). drop m (p ++ sep ∷ bs)) (omega arith) ∙ behind sep p bs n
 
 -- a piece stands in the text from where it begins
 pub piece_stands : (sep : ℕ) (text : List ℕ) (k : ℕ) → k < length (pieces sep text)
@@ -110,25 +116,21 @@ place_more [] k h = absurd (omega arith)
 place_more (p ∷ ps) zero h = omega arith
 place_more (p ∷ ps) (suc k) h = omega (arith, place_more ps k (omega arith))
 
--- the next separator from a place on ends the piece that the place is in
-pub ends_at : (sep : ℕ) (text : List ℕ) (at e : ℕ) → e ≤ length text → (at ≤ length text → at ≤ e) → (length text ≤ at → e ≡ length text)
-    → ((i : ℕ) → at ≤ i → i < e → get_or text i 0 ≡ sep → ⊥) → (at ≤ e → e < length text → get_or text e 0 ≡ sep) → Ends sep text at e
-ends_at sep text at e h a p none here = record {
-  inside = h;
-  onward = a;
-  exact = λ l. omega (arith, long l, a l);
-  past = p;
-  after = λ k l q. a (inside_at k l q);
-  is = λ k l q. ap (λ (n : ℕ). take n (drop at text)) (sym (long (inside_at k l q))) ∙ first_piece sep (drop at text) ∙ the k l q;
+-- the first piece from a place on ends the piece that the place is in
+pub ends_at : (sep : ℕ) (text : List ℕ) (at e : ℕ) → at ≤ length text → e ≡ at + length (piece (pieces sep (drop at text)) 0) → Ends sep text at e
+ends_at sep text at e h x = record {
+  inside = omega (arith, first_inside sep (drop at text), length-drop at text);
+  onward = λ _. omega arith;
+  exact = λ _. x;
+  past = λ g. omega (arith, first_inside sep (drop at text), length-drop at text);
+  after = λ k l q. omega arith;
+  is = λ k l q. ap (λ (n : ℕ). take n (drop at text)) (omega arith) ∙ first_piece sep (drop at text) ∙ the k l q;
   next = λ k l q.
-      omega (arith, ap (place (pieces sep text)) (next_is k), place_more (pieces sep text) k l, long (inside_at k l q), ap length (the k l q), a (inside_at k l q));
+      omega (arith, ap (place (pieces sep text)) (next_is k), place_more (pieces sep text) k l, ap length (the k l q));
 }
   where
     next_is : (k : ℕ) → k + 1 ≡ suc k
     next_is k = omega arith
-
-    inside_at : (k : ℕ) → k < length (pieces sep text) → at ≡ place (pieces sep text) k → at ≤ length text
-    inside_at k l q = omega (arith, (from_piece sep text k l).inside)
 
     the : (k : ℕ) → k < length (pieces sep text) → at ≡ place (pieces sep text) k → piece (pieces sep (drop at text)) 0 ≡ piece (pieces sep text) k
     the k l q =
@@ -136,13 +138,17 @@ ends_at sep text at e h a p none here = record {
         ap (λ (n : ℕ). piece (pieces sep (drop n text)) 0) q ∙ ap (λ (z : List (List ℕ)). get_or z 0 []) f.rest ∙ get_or-drop k (pieces sep text) 0 []
         ∙ ap (piece (pieces sep text)) (omega arith)
 
-    long : at ≤ length text → length (piece (pieces sep (drop at text)) 0) ≡ e - at
-    long l =
-        let n = length-drop at text in
-        let le = a l in
-        first_end sep (drop at text) (e - at) (omega arith)
-        (λ i h g. none (at + i) (omega arith) (omega arith) (sym (get_or-drop at text i 0) ∙ g))
-        (λ h. get_or-drop at text (e - at) 0 ∙ ap (λ (n : ℕ). get_or text n 0) (omega arith) ∙ here le (omega arith))
+-- past the text no piece begins
+pub ends_past : (sep : ℕ) (text : List ℕ) (at : ℕ) → length text < at → Ends sep text at (length text)
+ends_past sep text at h = record {
+  inside = omega arith;
+  onward = λ g. absurd (omega arith);
+  exact = λ g. absurd (omega arith);
+  past = λ _. refl;
+  after = λ k l q. absurd (omega (arith, (from_piece sep text k l).inside));
+  is = λ k l q. absurd (omega (arith, (from_piece sep text k l).inside));
+  next = λ k l q. absurd (omega (arith, (from_piece sep text k l).inside));
+}
 
 -- all pieces, each with a separator behind it, are one byte longer than the text
 spanned_all : (sep : ℕ) (text : List ℕ) → spanned (pieces sep text) ≡ length text + 1
@@ -155,27 +161,45 @@ spanned_all sep (b ∷ bs) = go (cases_Bool (eqb b sep)) (split sep bs) (spanned
     go (inr n) (inr (p, r, l, t, q)) e = rw (n, q) (omega (arith, ap spanned q, e))
 
 -- past the last piece the place is one past the text
-place_past : (sep : ℕ) (text : List ℕ) (k : ℕ) → length (pieces sep text) ≤ k → place (pieces sep text) k ≡ length text + 1
+pub place_past : (sep : ℕ) (text : List ℕ) (k : ℕ) → length (pieces sep text) ≤ k → place (pieces sep text) k ≡ length text + 1
 place_past sep text k h = ap spanned (take_all k (pieces sep text) h) ∙ spanned_all sep text
 
--- behind the end of a piece the next begins
-pub start_more : (sep : ℕ) (text : List ℕ) (at k e : ℕ) → Ends sep text at e → at ≡ place (pieces sep text) k → e + 1 ≡ place (pieces sep text) (k + 1)
-start_more sep text at k e n q = go (cases_lt k (length (pieces sep text)))
+-- and no place is further
+pub place_inside : (sep : ℕ) (text : List ℕ) (k : ℕ) → place (pieces sep text) k ≤ length text + 1
+place_inside sep text k = go (cases_lt k (length (pieces sep text)))
   where
-    go : (k < length (pieces sep text)) ⊎ (length (pieces sep text) ≤ k) → e + 1 ≡ place (pieces sep text) (k + 1)
-    go (inl l) = n.next k l q
-    go (inr l) = omega (arith, n.past (omega (arith, place_past sep text k l)), place_past sep text (k + 1) (omega arith))
+    go : (k < length (pieces sep text)) ⊎ (length (pieces sep text) ≤ k) → place (pieces sep text) k ≤ length text + 1
+    go (inl l) = omega (arith, (from_piece sep text k l).inside)
+    go (inr l) = omega (arith, place_past sep text k l)
 
--- past a separator there is one piece fewer
-pub past_separator : (sep : ℕ) (text : List ℕ) (i : ℕ) → i < length text → get_or text i 0 ≡ sep
-    → length (pieces sep (drop i text)) ≡ length (pieces sep (drop (i + 1) text)) + 1
-past_separator sep text i h e = rw (drop_more text i 0 h, eq-eqb (get_or text i 0) sep e) (omega arith)
-
--- and past another byte as many
-pub past_other : (sep : ℕ) (text : List ℕ) (i : ℕ) → i < length text → (get_or text i 0 ≡ sep → ⊥)
-    → length (pieces sep (drop i text)) ≡ length (pieces sep (drop (i + 1) text))
-past_other sep text i h e = rw (drop_more text i 0 h, ne_eqb (get_or text i 0) sep e) (as_many (get_or text i 0) (split sep (drop (i + 1) text)))
+-- a piece with its place, and those behind it
+pub left_more : (sep : ℕ) (text : List ℕ) (at e : ℕ) → at ≤ length text → e ≡ at + length (piece (pieces sep (drop at text)) 0)
+    → placed at (pieces sep (drop at text)) ≡ (at, take (e - at) (drop at text)) ∷ cond (nat_le (e + 1) (length text)) (placed (e + 1) (pieces sep (drop (e + 1) text))) []
+left_more sep text at e h x = go (split sep (drop at text))
   where
-    as_many : {bs : List ℕ} (b : ℕ) → Split sep bs → length (onto b (pieces sep bs)) ≡ length (pieces sep bs)
-    as_many b (inl (p, l, e, q)) = rw q refl
-    as_many b (inr (p, r, l, e, q)) = rw q refl
+    go : Split sep (drop at text)
+        → placed at (pieces sep (drop at text)) ≡ (at, take (e - at) (drop at text)) ∷ cond (nat_le (e + 1) (length text)) (placed (e + 1) (pieces sep (drop (e + 1) text))) []
+    go (inl (p, l, t, q)) =
+        let a : length p ≡ length text - at = sym (ap length t) ∙ length-drop at text in
+        let b : e ≡ at + length p = x ∙ ap (λ (z : List (List ℕ)). at + length (piece z 0)) q in
+        rw (q, t, lt-leb (e + 1) (length text) (omega arith)) (ap (λ (z : List ℕ). (at, z) ∷ []) (sym (take_all (e - at) p (omega arith))))
+    go (inr (p, bs, l, t, q)) =
+        let a : length p + suc (length bs) ≡ length text - at = sym (ap length t ∙ length-append p (sep ∷ bs)) ∙ length-drop at text in
+        let b : e ≡ at + length p = x ∙ ap (λ (z : List (List ℕ)). at + length (piece z 0)) q in
+        let f : drop (e + 1) text ≡ bs = ap (λ (n : ℕ). drop n text) (omega arith) ∙ sym (drop-drop (length p + suc 0) at text) ∙ ap (drop (length p + suc 0)) t ∙ behind sep p bs 0 in
+        rw (q, le-leb (e + 1) (length text) (omega arith), f, t)
+        (ap₂ (λ (z : List ℕ) (n : ℕ). (at, z) ∷ placed n (pieces sep bs)) (sym (take_at p (sep ∷ bs) (e - at) (omega arith))) (omega arith))
+
+-- what is left at a place of the text
+pub left_from : (s : Pieces) → s.at ≤ length s.text.now → pieces_left s ≡ placed s.at (pieces s.sep (drop s.at s.text.now))
+unfolding pieces_left
+left_from s h = rw (le-leb s.at (length s.text.now) h) refl
+
+-- and past it
+pub left_past : (s : Pieces) → length s.text.now < s.at → pieces_left s ≡ []
+unfolding pieces_left
+left_past s h = rw (lt-leb s.at (length s.text.now) h) refl
+
+-- the pieces are at most one more than the bytes
+pub few_pieces : (sep : ℕ) (text : List ℕ) → length (pieces sep text) ≤ length text + 1
+few_pieces sep text = omega (arith, length-slice_split (λ b. b == sep) text, count_by-le-length (λ b. b == sep) text)

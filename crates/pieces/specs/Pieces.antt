@@ -1,15 +1,12 @@
 -- The pieces of a text between separators, and where each begins. Assumes nothing.
-use Rattle.std.specs.Prelude.{◌≡◌, ℕ, ◌+◌, ◌<◌, ◌≤◌, cond, List, [], ◌∷◌, length, take, drop, ◌==◌, slice_index_or, slice_range}
-
--- the byte in front of the first piece
-abbrev pub onto : ℕ → List (List ℕ) → List (List ℕ)
-onto b [] = (b ∷ []) ∷ []
-onto b (p ∷ ps) = (b ∷ p) ∷ ps
+use Rattle.std.specs.Prelude.{◌≡◌, ℕ, ◌+◌, ◌<◌, ◌≤◌, cond, List, [], ◌∷◌, length, take, drop, ◌==◌, nat_le, slice_index_or, slice_range}
+use Rattle.std.specs.List.{slice_split}
+use Rattle.pieces.specs.declared.Piece.{Piece}
+use Rattle.pieces.specs.declared.Pieces.{Pieces}
 
 -- the pieces of a text: one more than it has separators, and no piece has one in it
 abbrev pub pieces : ℕ → List ℕ → List (List ℕ)
-pieces sep [] = [] ∷ []
-pieces sep (b ∷ bs) = cond (b == sep) ([] ∷ pieces sep bs) (onto b (pieces sep bs))
+pieces sep text = slice_split (λ b. b == sep) text
 
 -- the bytes of some pieces, each with one separator behind it
 abbrev pub spanned : List (List ℕ) → ℕ
@@ -34,3 +31,16 @@ pub record Ends (sep : ℕ) (text : List ℕ) (at r : ℕ) : Type 0 where
   pub after : (k : ℕ) → k < length (pieces sep text) → at ≡ place (pieces sep text) k → at ≤ r
   pub is : (k : ℕ) → k < length (pieces sep text) → at ≡ place (pieces sep text) k → slice_range text at r ≡ piece (pieces sep text) k
   pub next : (k : ℕ) → k < length (pieces sep text) → at ≡ place (pieces sep text) k → r + 1 ≡ place (pieces sep text) (k + 1)
+
+-- pieces, each with the place where it begins; the first begins at n
+abbrev pub placed : ℕ → List (List ℕ) → List (ℕ × List ℕ)
+placed n [] = []
+placed n (p ∷ ps) = (n, p) ∷ placed (n + length p + 1) ps
+
+-- a piece as its place and its bytes
+abbrev pub located : Piece → ℕ × List ℕ
+located p = (p.start, p.bytes.now)
+
+-- the pieces that are left, each with its place
+unfoldable pub pieces_left : Pieces → List (ℕ × List ℕ)
+pieces_left s = cond (nat_le s.at (length s.text.now)) (placed s.at (pieces s.sep (drop s.at s.text.now))) []

@@ -1,19 +1,28 @@
 // The pieces of a text between separators.
 #![tactic(auto)]
 
-ghost use Rattle.std.specs.Prelude.{◌≡◌, ℕ, ◌+◌, ◌<◌, ◌≤◌, length, drop};
-ghost use Rattle.pieces.specs.Pieces.{pieces, place, piece, Ends};
+ghost use Rattle.std.specs.Prelude.{◌≡◌, ℕ, ◌+◌, ◌<◌, ◌≤◌, ◌≢◌, IfSome, length, drop, slice_index};
+ghost use Rattle.std.specs.Iterator.{YieldsFirstBy};
+ghost use Rattle.std.specs.Iterator.Runs.{EachRunFrom, ItemsMapTo};
+ghost use Rattle.pieces.specs.Pieces.{pieces, place, piece, Ends, placed, located, pieces_left};
+
+// The number of bytes in front of the first separator, or of all bytes.
+fn first_len(text: &[u8], sep: u8) -> usize
+    ensures within { result ≤ length text.now }
+    ensures before { (i : ℕ) → i < result → slice_index text.now i ≢ sep }
+    ensures found { result < length text.now → slice_index text.now result ≡ sep }
+{
+    text.iter().position(|b| *b == sep).unwrap_or(text.len())
+}
 
 // Where the piece ends that a place is in: at the next separator from there on, or with the text.
 pub fn piece_end(text: &[u8], sep: u8, at: usize) -> usize
     ensures { Ends sep text.now at result }
 {
-    for i in at..text.len() {
-        if text[i] == sep {
-            return i;
-        }
+    match text.get(at..) {
+        Some(rest) => at + first_len(rest, sep),
+        None => text.len(),
     }
-    text.len()
 }
 
 // The text from a place up to the next separator; empty past the end of the text. At the beginning of a piece it is that piece.
@@ -32,23 +41,75 @@ pub fn separators(text: &[u8], sep: u8) -> usize
     ensures is { result + 1 ≡ length (pieces sep text.now) }
     ensures few { result ≤ length text.now }
 {
-    let mut count = 0;
-    for b in text {
-        if *b == sep {
-            count += 1;
-        }
-    }
-    count
+    text.iter().filter(|b| **b == sep).count()
 }
 
 // Where piece k begins; for a piece that the text does not have, one past its end.
+#[tactic(auto, using(crate::proofs::Splits::place_past, crate::proofs::Splits::place_inside))]
 pub fn piece_start(text: &[u8], sep: u8, k: usize) -> usize
     ensures is { result ≡ place (pieces sep text.now) k }
     ensures inside { result ≤ length text.now + 1 }
 {
-    let mut at = 0;
-    for _ in 0..k {
-        at = piece_end(text, sep, at) + 1;
+    Pieces::of(text, sep)
+        .nth(k)
+        .map_or(text.len() + 1, |p| p.start)
+}
+
+// Piece k; empty for a piece that the text does not have.
+pub fn piece_at(text: &[u8], sep: u8, k: usize) -> &[u8]
+    ensures { result.now ≡ piece (pieces sep text.now) k }
+{
+    Pieces::of(text, sep).nth(k).map_or(b"", |p| p.bytes)
+}
+
+// A piece of a text: where it begins, and its bytes.
+#[derive(Clone, Copy)]
+pub struct Piece<'a> {
+    pub start: usize,
+    pub bytes: &'a [u8],
+}
+
+// The pieces of a text, one after the other.
+#[derive(Clone, Copy)]
+pub struct Pieces<'a> {
+    text: &'a [u8],
+    sep: u8,
+    // where the next piece begins; past the text where none is left
+    at: usize,
+}
+
+impl<'a> Pieces<'a> {
+    // All pieces of a text.
+    pub fn of(text: &'a [u8], sep: u8) -> Pieces<'a>
+        ensures all { pieces_left result ≡ placed 0 (pieces sep text.now) }
+        ensures few { length (pieces_left result) ≤ length text.now + 1 }
+        ensures runs { EachRunFrom (YieldsFirstBy located pieces_left) result (λ p. ItemsMapTo p (λ x. x.bytes.now) (pieces sep text.now)) }
+        ensures starts { EachRunFrom (YieldsFirstBy located pieces_left) result (λ p. (k : ℕ) → IfSome (p.at k) (λ x. x.start ≡ place (pieces sep text.now) k)) }
+    {
+        Pieces { text, sep, at: 0 }
     }
-    at
+}
+
+impl<'a> Iterator for Pieces<'a> {
+    ghost use Rattle.std.specs.Iterator.{YieldsFirstBy, item_count};
+    ghost use Rattle.pieces.specs.Pieces.{located, pieces_left};
+
+    type Item = Piece<'a>;
+
+    ghost next_gives = { YieldsFirstBy located pieces_left };
+
+    ghost remaining = { item_count pieces_left };
+
+    fn next(&mut self) -> Option<Piece<'a>> {
+        if self.at > self.text.len() {
+            return None;
+        }
+        let start = self.at;
+        let end = piece_end(self.text, self.sep, start);
+        self.at = end + 1;
+        Some(Piece {
+            start,
+            bytes: &self.text[start..end],
+        })
+    }
 }
