@@ -8,7 +8,7 @@ ghost use Rattle.sheet.specs.Reading.{Accepted};
 ghost use Rattle.dual_text.specs.Turned.{turned_marks, turned_flags, turned_row, turned_rows, Flags};
 
 use pieces::{piece_end, piece_from, piece_start, separators};
-use words::{Kind, kind_of, turn_mark};
+use words::{Kind, turn_mark};
 
 // Turns the marks of an action's line; the part is a copy of the line.
 fn turn_marks(line: &[u8], part: &mut [u8])
@@ -64,7 +64,7 @@ fn turn_line(text: &[u8], row: usize, line: &[u8], part: &mut [u8])
         → part.old ≡ line.now → part.new ≡ joined 32 (turned_row text.now row) }
     ensures size { length part.new ≡ length part.old }
 {
-    match kind_of(row) {
+    match Kind::of_row(row) {
         Kind::Facts => {}
         Kind::Now => turn_flags(line, line_at(text, 2), b'0', part),
         Kind::Wish => turn_flags(line, line_at(text, 1), b'-', part),

@@ -8,7 +8,7 @@ ghost use Rattle.sheet.specs.Shape.{GoodMarks, MarkedMore};
 use crate::shape::MAX_FACTS;
 use pieces::{piece_end, separators};
 use strips::Action;
-use words::mark_of;
+use words::Mark;
 
 // A set of facts below i, with fact i where it is in it.
 fn with_fact(facts: u64, i: usize, is_in: bool) -> u64
@@ -54,7 +54,7 @@ fn with_mark(action: Action, i: usize, word: &[u8]) -> Action
     requires { i < 64 }
     ensures { is_mark word.now ≡ true → MarkedMore action i word.now result }
 {
-    let Some(mark) = mark_of(word) else {
+    let Ok(mark) = Mark::try_from(word) else {
         return action;
     };
     Action {

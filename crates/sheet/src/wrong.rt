@@ -5,7 +5,7 @@ ghost use Rattle.sheet.specs.Shape.{Worded, WrongOf};
 
 use fault::Fault;
 use pieces::{piece_end, separators};
-use words::{Kind, is_allowed, kind_of};
+use words::Kind;
 
 // Where the first word of a line begins that its column does not allow, if there is one.
 fn wrong_in(line: &[u8], kind: Kind) -> Option<usize>
@@ -14,7 +14,7 @@ fn wrong_in(line: &[u8], kind: Kind) -> Option<usize>
     let mut at = 0;
     for column in 0..separators(line, b' ') + 1 {
         let end = piece_end(line, b' ', at);
-        if !is_allowed(kind, column, &line[at..end]) {
+        if !kind.allows(column, &line[at..end]) {
             return Some(at);
         }
         at = end + 1;
@@ -30,7 +30,7 @@ pub fn check_words(text: &[u8], lines: usize) -> Result<(), Fault>
     let mut at = 0;
     for row in 0..lines {
         let end = piece_end(text, b'\n', at);
-        if let Some(offset) = wrong_in(&text[at..end], kind_of(row)) {
+        if let Some(offset) = wrong_in(&text[at..end], Kind::of_row(row)) {
             return Err(Fault::WrongWord(at + offset));
         }
         at = end + 1;

@@ -1,5 +1,6 @@
 -- Which words a column of a sheet allows. Assumes nothing.
-use Rattle.std.specs.Prelude.{ℕ, Bool, true, false, cond, ◌&&◌, ◌||◌, List, [], ◌∷◌, length, codes, ◌==◌, nat_le}
+use Rattle.std.specs.Prelude.{ℕ, Bool, false, cond, ◌&&◌, ◌||◌, List, [], ◌∷◌, length, codes, ◌==◌, nat_le}
+use Rattle.std.specs.List.{list_all, list_any}
 use Rattle.std.specs.Str.{bytes_eq}
 use Rattle.words.specs.declared.kind.Kind.{Kind}
 use Rattle.words.specs.declared.kind.Kind.TheVariants.{Facts, Now, Wish, Action}
@@ -13,8 +14,7 @@ abbrev pub digit : ℕ → Bool
 digit b = nat_le 48 b && nat_le b 57
 
 abbrev pub letters_digits : List ℕ → Bool
-letters_digits [] = true
-letters_digits (b ∷ bs) = (letter b || digit b) && letters_digits bs
+letters_digits bs = list_all (λ b. letter b || digit b) bs
 
 -- a name: 1 to 16 letters and digits, a letter first
 abbrev pub is_name : List ℕ → Bool
@@ -23,8 +23,7 @@ is_name (b ∷ bs) = letter b && (letters_digits bs && nat_le (length bs) 15)
 
 -- whether the word is one of those listed
 abbrev pub among : List ℕ → List (List ℕ) → Bool
-among w [] = false
-among w (x ∷ xs) = bytes_eq w x || among w xs
+among w xs = list_any (bytes_eq w) xs
 
 -- a mark: a hyphen, or p, a and d, each at most once and in that order
 abbrev pub is_mark : List ℕ → Bool
@@ -54,5 +53,4 @@ kind_of r = cond (r == 0) Facts (cond (r == 1) Now (cond (r == 2) Wish Action))
 
 -- whether the byte is in the word
 abbrev pub holds : ℕ → List ℕ → Bool
-holds x [] = false
-holds x (b ∷ bs) = b == x || holds x bs
+holds x bs = list_any (λ b. b == x) bs

@@ -5,6 +5,6 @@ mod kind;
 mod mark;
 mod name;
 
-pub use kind::{Kind, is_allowed, kind_of};
-pub use mark::{Mark, mark_of, turn_mark};
+pub use kind::Kind;
+pub use mark::{Mark, NoMark, turn_mark};
 pub use name::is_name;

@@ -16,22 +16,14 @@ fn is_letter_or_digit(byte: u8) -> bool
 fn are_letters_digits(bytes: &[u8]) -> bool
     ensures { result ≡ letters_digits bytes.now }
 {
-    for b in bytes {
-        if !is_letter_or_digit(*b) {
-            return false;
-        }
-    }
-    true
+    bytes.iter().all(|b| is_letter_or_digit(*b))
 }
 
 // Whether a word is a name: 1 to 16 letters and digits, a letter first.
 pub fn is_name(word: &[u8]) -> bool
     ensures { result ≡ is_name word.now }
 {
-    match word.split_first() {
-        Some((first, rest)) => {
-            first.is_ascii_lowercase() && are_letters_digits(rest) && rest.len() < MAX_NAME
-        }
-        None => false,
-    }
+    word.split_first().is_some_and(|(first, rest)| {
+        first.is_ascii_lowercase() && are_letters_digits(rest) && rest.len() < MAX_NAME
+    })
 }
