@@ -1,13 +1,13 @@
 -- A text as lines of words. Assumes nothing.
 use Rattle.std.specs.Prelude.{◌≡◌, ℕ, ◌+◌, ◌<◌, ◌≤◌, Bool, true, false, ◌&&◌, ◌||◌, List, [], ◌∷◌, ◌++◌, length, take, ◌==◌, nat_le}
+use Rattle.std.specs.List.{list_all}
 
 -- a byte of a word: a to z, 0 to 9 or hyphen
 abbrev pub word_byte : ℕ → Bool
 word_byte b = (nat_le 97 b && nat_le b 122) || ((nat_le 48 b && nat_le b 57) || b == 45)
 
 abbrev pub word_bytes : List ℕ → Bool
-word_bytes [] = true
-word_bytes (b ∷ bs) = word_byte b && word_bytes bs
+word_bytes bs = list_all word_byte bs
 
 -- a word: one or more bytes
 abbrev pub is_word : List ℕ → Bool
@@ -15,8 +15,7 @@ is_word [] = false
 is_word (b ∷ bs) = word_byte b && word_bytes bs
 
 abbrev pub are_words : List (List ℕ) → Bool
-are_words [] = true
-are_words (w ∷ ws) = is_word w && are_words ws
+are_words ws = list_all is_word ws
 
 -- a line: one or more words
 abbrev pub is_line : List (List ℕ) → Bool
@@ -24,8 +23,7 @@ is_line [] = false
 is_line (w ∷ ws) = is_word w && are_words ws
 
 abbrev pub are_lines : List (List (List ℕ)) → Bool
-are_lines [] = true
-are_lines (l ∷ ls) = is_line l && are_lines ls
+are_lines ls = list_all is_line ls
 
 -- each part behind a separator
 abbrev pub behind : ℕ → List (List ℕ) → List ℕ
