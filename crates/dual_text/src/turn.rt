@@ -2,12 +2,12 @@
 ghost use Rattle.std.specs.Prelude.{◌≡◌, ◌<◌, [], ◌∷◌, length, if◌then◌else◌, codes};
 ghost use Rattle.lines.specs.Grammar.{joined, lines_text};
 ghost use Rattle.words.specs.Words.{holds};
-ghost use Rattle.sheet.specs.Grid.{lines, line_count, line_at};
+ghost use Rattle.sheet.specs.Grid.{line_count, line_at};
 ghost use Rattle.sheet.specs.Shape.{GoodMarks};
 ghost use Rattle.sheet.specs.Reading.{Accepted};
 ghost use Rattle.dual_text.specs.Turned.{turned_marks, turned_flags, turned_row, turned_rows, Flags};
 
-use pieces::{piece_end, piece_from, piece_start, separators};
+use pieces::{Pieces, piece_at, separators};
 use words::{Kind, turn_mark};
 
 // Turns the marks of an action's line; the part is a copy of the line.
@@ -16,11 +16,8 @@ fn turn_marks(line: &[u8], part: &mut [u8])
     ensures turned { part.old ≡ line.now → GoodMarks line.now → part.new ≡ joined 32 (turned_marks line.now) }
     ensures size { length part.new ≡ length part.old }
 {
-    let mut at = piece_end(line, b' ', 0) + 1;
-    for _ in 0..separators(line, b' ') {
-        let end = piece_end(line, b' ', at);
-        turn_mark(&mut part[at..end]);
-        at = end + 1;
+    for word in Pieces::of(line, b' ').skip(1) {
+        turn_mark(&mut part[word.range()]);
     }
 }
 
@@ -40,21 +37,10 @@ fn turn_flags(line: &[u8], other: &[u8], off: u8, part: &mut [u8])
         → part.new ≡ joined 32 (turned_flags off line.now other.now) }
     ensures size { length part.new ≡ length part.old }
 {
-    let mut at = piece_end(line, b' ', 0) + 1;
-    let mut beside = piece_end(other, b' ', 0) + 1;
-    for _ in 0..separators(line, b' ') {
-        let end = piece_end(line, b' ', at);
-        turn_flag(piece_from(other, b' ', beside), off, &mut part[at..end]);
-        at = end + 1;
-        beside = piece_end(other, b' ', beside) + 1;
+    let pairs = Pieces::of(line, b' ').zip(Pieces::of(other, b' '));
+    for (word, beside) in pairs.skip(1) {
+        turn_flag(beside.bytes, off, &mut part[word.range()]);
     }
-}
-
-// The line with this number.
-fn line_at(text: &[u8], row: usize) -> &[u8]
-    ensures { row < length (lines text.now) → result.now ≡ line_at text.now row }
-{
-    piece_from(text, b'\n', piece_start(text, b'\n', row))
 }
 
 // Turns the line with this number; the part is a copy of the line.
@@ -66,8 +52,8 @@ fn turn_line(text: &[u8], row: usize, line: &[u8], part: &mut [u8])
 {
     match Kind::of_row(row) {
         Kind::Facts => {}
-        Kind::Now => turn_flags(line, line_at(text, 2), b'0', part),
-        Kind::Wish => turn_flags(line, line_at(text, 1), b'-', part),
+        Kind::Now => turn_flags(line, piece_at(text, b'\n', 2), b'0', part),
+        Kind::Wish => turn_flags(line, piece_at(text, b'\n', 1), b'-', part),
         Kind::Action => turn_marks(line, part),
     }
 }
@@ -78,10 +64,8 @@ pub fn turn_text(text: &[u8], copy: &mut [u8])
     ensures turned { Accepted text.now → copy.new ≡ lines_text (turned_rows text.now) }
     ensures size { length copy.new ≡ length copy.old }
 {
-    let mut at = 0;
-    for row in 0..separators(text, b'\n') {
-        let end = piece_end(text, b'\n', at);
-        turn_line(text, row, &text[at..end], &mut copy[at..end]);
-        at = end + 1;
+    let lines = Pieces::of(text, b'\n').enumerate();
+    for (row, line) in lines.take(separators(text, b'\n')) {
+        turn_line(text, row, line.bytes, &mut copy[line.range()]);
     }
 }

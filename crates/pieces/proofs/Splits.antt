@@ -151,7 +151,7 @@ ends_past sep text at h = record {
 }
 
 -- all pieces, each with a separator behind it, are one byte longer than the text
-spanned_all : (sep : ℕ) (text : List ℕ) → spanned (pieces sep text) ≡ length text + 1
+pub spanned_all : (sep : ℕ) (text : List ℕ) → spanned (pieces sep text) ≡ length text + 1
 spanned_all sep [] = refl
 spanned_all sep (b ∷ bs) = go (cases_Bool (eqb b sep)) (split sep bs) (spanned_all sep bs)
   where

@@ -1,10 +1,12 @@
 // The pieces of a text between separators.
 #![tactic(auto)]
 
-ghost use Rattle.std.specs.Prelude.{◌≡◌, ℕ, ◌+◌, ◌<◌, ◌≤◌, ◌≢◌, IfSome, length, drop, slice_index};
+ghost use Rattle.std.specs.Prelude.{◌≡◌, ℕ, ◌+◌, ◌^◌, ◌<◌, ◌≤◌, ◌≢◌, IfSome, length, drop, slice_index};
 ghost use Rattle.std.specs.Iterator.{YieldsFirstBy};
-ghost use Rattle.std.specs.Iterator.Runs.{EachRunFrom, ItemsMapTo};
+ghost use Rattle.std.specs.Iterator.Runs.{AllItems, EachRunFrom, ItemsMapTo};
 ghost use Rattle.pieces.specs.Pieces.{pieces, place, piece, Ends, placed, located, pieces_left};
+
+use std::ops::Range;
 
 // The number of bytes in front of the first separator, or of all bytes.
 fn first_len(text: &[u8], sep: u8) -> usize
@@ -69,6 +71,17 @@ pub struct Piece<'a> {
     pub bytes: &'a [u8],
 }
 
+impl Piece<'_> {
+    // Where the piece stands in its text.
+    pub fn range(&self) -> Range<usize>
+        requires { self.now.start + length self.now.bytes.now < 2 ^ 64 }
+        ensures from { result.start ≡ self.now.start }
+        ensures to { result.end ≡ self.now.start + length self.now.bytes.now }
+    {
+        self.start..self.start + self.bytes.len()
+    }
+}
+
 // The pieces of a text, one after the other.
 #[derive(Clone, Copy)]
 pub struct Pieces<'a> {
@@ -85,6 +98,7 @@ impl<'a> Pieces<'a> {
         ensures few { length (pieces_left result) ≤ length text.now + 1 }
         ensures runs { EachRunFrom (YieldsFirstBy located pieces_left) result (λ p. ItemsMapTo p (λ x. x.bytes.now) (pieces sep text.now)) }
         ensures starts { EachRunFrom (YieldsFirstBy located pieces_left) result (λ p. (k : ℕ) → IfSome (p.at k) (λ x. x.start ≡ place (pieces sep text.now) k)) }
+        ensures inside { EachRunFrom (YieldsFirstBy located pieces_left) result (λ p. AllItems p (λ x. x.start + length x.bytes.now ≤ length text.now)) }
     {
         Pieces { text, sep, at: 0 }
     }
