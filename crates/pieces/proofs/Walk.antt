@@ -52,20 +52,24 @@ here_at ps k {x} l e =
       next = omega (arith, ap length bytes, place_more ps k l, ap (place ps) more);
     }
 
--- what comes at turn i of a walk that leaves out the first n, as `YieldsList-turn` answers it of `walk_from`
-pub here : (ps : List (List ℕ)) (n : ℕ) {i : ℕ} {x : ℕ × List ℕ} → (i < length (drop n (placed 0 ps))) × (x ≡ get_or (drop n (placed 0 ps)) i x) → Here ps (i + n) x.0 x.1
-here ps n {i} {x} (h, e) =
+-- what comes at turn k of a walk, as `YieldsList-turn` answers it
+pub here : (ps : List (List ℕ)) {k : ℕ} {x : ℕ × List ℕ} → (k < length (placed 0 ps)) × (x ≡ get_or (placed 0 ps) k x) → Here ps k x.0 x.1
+here ps {k} {x} (h, e) = here_at ps k (omega (arith, length-placed 0 ps)) e
+
+-- and at turn i of a walk that leaves out the first n
+pub here_past : (ps : List (List ℕ)) (n : ℕ) {i : ℕ} {x : ℕ × List ℕ} → (i < length (drop n (placed 0 ps))) × (x ≡ get_or (drop n (placed 0 ps)) i x) → Here ps (i + n) x.0 x.1
+here_past ps n {i} {x} (h, e) =
     here_at ps (i + n) (omega (arith, length-placed 0 ps, length-drop n (placed 0 ps)))
     (e ∙ get_or-drop n (placed 0 ps) i x ∙ ap (λ (k : ℕ). get_or (placed 0 ps) k x) (omega arith))
 
 -- at its end no piece is left, as `YieldsList-end` answers it
-pub walked : (ps : List (List ℕ)) (n : ℕ) {i : ℕ} → i ≡ length (drop n (placed 0 ps)) → length ps ≤ i + n
-walked ps n e = omega (arith, length-placed 0 ps, length-drop n (placed 0 ps))
+pub walked_past : (ps : List (List ℕ)) (n : ℕ) {i : ℕ} → i ≡ length (drop n (placed 0 ps)) → length ps ≤ i + n
+walked_past ps n e = omega (arith, length-placed 0 ps, length-drop n (placed 0 ps))
 
 -- a walk over all pieces but the first n
-pub walk_from : (n sep : ℕ) (text : List ℕ) {s : Skip Pieces} → pieces_left (skip_source s) ≡ placed 0 (pieces sep text) → skip_count s ≡ n
+pub walk_past : (n sep : ℕ) (text : List ℕ) {s : Skip Pieces} → pieces_left (skip_source s) ≡ placed 0 (pieces sep text) → skip_count s ≡ n
     → YieldsList (skip_steps (YieldsFirstBy located pieces_left)) located s (drop n (placed 0 (pieces sep text)))
-walk_from n sep text e = YieldsList-from_skip n (YieldsList-from_first located pieces_left (placed 0 (pieces sep text)) e)
+walk_past n sep text e = YieldsList-from_skip n (YieldsList-from_first located pieces_left (placed 0 (pieces sep text)) e)
 
 -- the same over two texts beside each other
 abbrev pub beside : List (List ℕ) → List (List ℕ) → ℕ → List ((ℕ × List ℕ) × (ℕ × List ℕ))

@@ -1,7 +1,7 @@
 use Rattle.std.proofs.Common.{◌+◌, length, sym, ap, ◌∙◌, arith, rules}
 use Rattle.std.proofs.lemmas.List.{length_push}
 use Rattle.std.proofs.lemmas.Iterator.Consumers.{YieldsList-turn, YieldsList-end}
-use Rattle.pieces.proofs.Walk.{here, walk_from, walked}
+use Rattle.pieces.proofs.Walk.{here_past, walk_past, walked_past}
 use Rattle.words.specs.Marks.{dual_mark}
 use Rattle.sheet.specs.Grid.{words_in}
 use Rattle.dual_text.specs.Turned.{turned_marks}
@@ -16,8 +16,8 @@ pub loop-word-preserved : goal.loop-word-preserved
 loop-word-preserved c =
     let line = c.args.line.now in
     let k = length c.loop-word.yielded in
-    let walk = walk_from 1 32 line {s = c.into_iter-word-iterator.result} (cc) (cc) in
-    let h = here (words_in line) 1 (YieldsList-turn walk c.loop-word.yielded _ c.loop-word.yielded_by _ c.next.new.self c.in-Some.word c.in-Some.is c.next.ensures.steps) in
+    let walk = walk_past 1 32 line {s = c.into_iter-word-iterator.result} (cc) (cc) in
+    let h = here_past (words_in line) 1 (YieldsList-turn walk c.loop-word.yielded _ c.loop-word.yielded_by _ c.next.new.self c.in-Some.word c.in-Some.is c.next.ensures.steps) in
     record {
       can = search rules;
       ends = search rules;
@@ -28,6 +28,6 @@ loop-word-preserved c =
 pub returns-clause-turned : goal.returns-clause-turned
 returns-clause-turned c e good =
     let line = c.args.line.now in
-    let walk = walk_from 1 32 line {s = c.into_iter-word-iterator.result} (cc) (cc) in
+    let walk = walk_past 1 32 line {s = c.into_iter-word-iterator.result} (cc) (cc) in
     let all = YieldsList-end walk c.loop-word.yielded _ c.loop-word.yielded_by _ c.next.new.self c.in-None.is c.next.ensures.steps in
-    c.loop-word.invariant.turned e good ∙ over_all 32 _ _ (length c.loop-word.yielded + 1) (marks_alike line good) (walked (words_in line) 1 all.1)
+    c.loop-word.invariant.turned e good ∙ over_all 32 _ _ (length c.loop-word.yielded + 1) (marks_alike line good) (walked_past (words_in line) 1 all.1)
