@@ -1,15 +1,17 @@
 -- The words for the facts of a set give back the set, and are words that their columns allow.
-use Rattle.std.proofs.Common.{◌≡◌, ℕ, zero, suc, ◌+◌, ◌*◌, ◌/◌, ◌%◌, ◌^◌, ◌<◌, Bool, true, false, cond, eqb, ◌⊎◌, List, [], ◌∷◌, map, codes, sym, refl, ap, ◌∙◌, ap₂, inl, inr, mod-lt, zero-lt-suc, div-add-mod', div-one, add-one, arith, shr-shr, shr_lt}
+use Rattle.std.proofs.Common.{◌≡◌, ℕ, zero, suc, ◌+◌, ◌*◌, ◌/◌, ◌%◌, ◌^◌, ◌<◌, Bool, true, false, cond, ◌||◌, eqb, ◌⊎◌, List, [], ◌∷◌, map, codes, sym, refl, ap, ◌∙◌, ap₂, inl, inr, mod-lt, zero-lt-suc, div-add-mod', div-one, add-one, arith, shr-shr, shr_lt}
 use lib.Arith.{lt-one}
 use Rattle.std.specs.List.{range_with_len}
 use Rattle.std.specs.Str.{bytes_eq}
 use Rattle.std.proofs.lemmas.Slice.Eq.{bytes_eq-Decides}
+use Rattle.std.proofs.lemmas.List.Elements.{All-weaker}
+use Rattle.std.proofs.lemmas.List.Sums.{AllPass-from_list_all, list_all-from_AllPass}
 use Rattle.std.proofs.lemmas.Bool.{and_parts, or_cases}
 use Rattle.std.proofs.lemmas.Bool.Decides.{nat_tests}
-use Rattle.lines.specs.Grammar.{word_bytes, is_word, are_words}
+use Rattle.lines.specs.Grammar.{word_byte, word_bytes, is_word, are_words}
 use Rattle.words.specs.declared.kind.Kind.{Kind}
 use Rattle.words.specs.declared.kind.Kind.TheVariants.{Facts, Now, Wish, Action}
-use Rattle.words.specs.Words.{letter, letters_digits, is_name, is_mark, among, allowed_first, allowed_later, holds}
+use Rattle.words.specs.Words.{letter, digit, letters_digits, is_name, is_mark, among, allowed_first, allowed_later, holds}
 use Rattle.words.specs.Marks.{mark_word}
 use Rattle.strips.specs.Sets.{has}
 use Rattle.sheet.specs.Reading.{set_of}
@@ -85,12 +87,8 @@ word_among w (x ∷ xs) g h =
 
 -- letters and digits are bytes of words
 letters_bytes : (bs : List ℕ) → letters_digits bs ≡ true → word_bytes bs ≡ true
-letters_bytes [] h = refl
-letters_bytes (b ∷ bs) h =
-    let k = and_parts _ (letters_digits bs) h in
-    let r = letters_bytes bs k.1 in
-    let l = k.0 in
-    grind (arith, nat_tests)
+letters_bytes bs h =
+    list_all-from_AllPass word_byte bs (All-weaker (λ b. (letter b || digit b) ≡ true) (λ b. word_byte b ≡ true) (λ b l. grind (arith, nat_tests)) bs (AllPass-from_list_all _ bs h))
 
 -- a name is a word
 name_word : (w : List ℕ) → is_name w ≡ true → is_word w ≡ true

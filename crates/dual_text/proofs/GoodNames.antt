@@ -1,7 +1,8 @@
 -- The names of an accepted text are names, all different.
-use Rattle.std.proofs.Common.{◌≡◌, ℕ, suc, ◌<◌, true, List, [], ◌∷◌, length, sym, refl, ap, ◌∙◌, arith}
+use Rattle.std.proofs.Common.{◌≡◌, ℕ, ◌<◌, true, List, [], length, sym, ap, ◌∙◌, arith}
 use Rattle.std.proofs.lemmas.List.{get_or-map, length-map}
-use Rattle.std.proofs.lemmas.Bool.{and_from}
+use Rattle.std.proofs.lemmas.List.Elements.{All-from_get_or}
+use Rattle.std.proofs.lemmas.List.Sums.{list_all-from_AllPass}
 use Rattle.pieces.specs.Pieces.{piece}
 use Rattle.words.specs.Words.{is_name}
 use Rattle.sheet.specs.Grid.{line_count, line_at, words_in, action_count, action_name, action_lines}
@@ -11,8 +12,7 @@ use Rattle.dual_text.proofs.AcceptedWords.{cell_is, cells_even, cell_allowed, th
 
 -- words that are each a name are names
 names_from_each : (ws : List (List ℕ)) → ((k : ℕ) → k < length ws → is_name (piece ws k) ≡ true) → are_names ws ≡ true
-names_from_each [] f = refl
-names_from_each (w ∷ ws) f = and_from (is_name w) (are_names ws) (f 0 (omega arith)) (names_from_each ws (λ k h. f (suc k) (omega arith)))
+names_from_each ws f = list_all-from_AllPass is_name ws (All-from_get_or (λ w. is_name w ≡ true) ws [] f)
 
 -- there is a name for each action
 names_of_actions : (text : List ℕ) → length (action_names text) ≡ action_count text

@@ -1,11 +1,12 @@
 -- A text joined again from its pieces.
 use Rattle.std.proofs.Common.{◌≡◌, ℕ, ◌<◌, true, false, eqb, ◌⊎◌, List, [], ◌∷◌, ◌++◌, map, length, take, drop, sym, refl, ap, ◌∙◌, ap₂, inl, inr, arith}
-use Rattle.std.proofs.lemmas.List.{append_assoc, drop_at, length_push, take_at}
-use Rattle.std.proofs.lemmas.Bool.{cases_Bool, eqb-true}
+use Rattle.std.proofs.lemmas.List.{drop_at, length_push, take_at}
+use Rattle.std.proofs.lemmas.Bool.{and_parts, cases_Bool, eqb-true}
 use Rattle.std.specs.List.{onto_first}
 use Rattle.pieces.specs.Pieces.{pieces}
 use Rattle.pieces.proofs.Splits.{some_piece}
-use Rattle.lines.specs.Grammar.{behind, joined, lines_text, Lines}
+use Rattle.lines.specs.Grammar.{is_line, are_lines, behind, joined, lines_text, Lines}
+use Rattle.dual_text.proofs.Splitting.{line_split, lines_split}
 use Rattle.sheet.specs.Grid.{lines, line_count, words_in}
 
 -- some parts, each behind a separator, are a separator and the parts with a separator between
@@ -27,53 +28,29 @@ joined_pieces sep (b ∷ bs) = go (cases_Bool (eqb b sep)) (joined_pieces sep bs
     go (inl y) e = rw y (behind_joined sep (pieces sep bs) (some_piece sep bs) ∙ ap₂ (λ (x : ℕ) (z : List ℕ). x ∷ z) (sym (eqb-true b sep y)) e)
     go (inr n) e = rw n (joined_onto sep b (pieces sep bs) ∙ ap (λ (z : List ℕ). b ∷ z) e)
 
--- a byte in front of the first of some pieces and more
-onto_append : (b : ℕ) (ps qs : List (List ℕ)) → 0 < length ps → onto_first b (ps ++ qs) ≡ onto_first b ps ++ qs
-onto_append b [] qs h = absurd (omega arith)
-onto_append b (p ∷ ps) qs h = refl
+-- the lines of a text of lines, and an empty piece behind the last
+module _ (text : List ℕ) (l : Lines text) where
+  the_lines : lines text ≡ map (joined 32) l.lines ++ [] ∷ []
+  the_lines = ap (pieces 10) l.same ∙ lines_split l.lines l.good
 
--- the pieces of two texts with a separator between are those of the one and those of the other
-pieces_append : (sep : ℕ) (front rest : List ℕ) → pieces sep (front ++ sep ∷ rest) ≡ pieces sep front ++ pieces sep rest
-pieces_append sep [] rest = grind arith
-pieces_append sep (b ∷ bs) rest = go (cases_Bool (eqb b sep)) (pieces_append sep bs rest)
-  where
-    go : (eqb b sep ≡ true) ⊎ (eqb b sep ≡ false) → pieces sep (bs ++ sep ∷ rest) ≡ pieces sep bs ++ pieces sep rest
-        → pieces sep (b ∷ bs ++ sep ∷ rest) ≡ pieces sep (b ∷ bs) ++ pieces sep rest
-    go (inl y) e = rw (y, e) refl
-    go (inr n) e = rw (n, e) (onto_append b (pieces sep bs) (pieces sep rest) (some_piece sep bs))
+  counted : length (map (joined 32) l.lines) ≡ line_count text
+  counted = omega (arith, ap length the_lines, length_push (map (joined 32) l.lines) [])
 
--- the last piece of a text of lines is empty
-last_empty : (rows : List (List (List ℕ))) → (ps : List (List ℕ)) × (pieces 10 (lines_text rows) ≡ ps ++ [] ∷ [])
-last_empty [] = ([], refl)
-last_empty (l ∷ ls) =
-    let q = last_empty ls in (
-      pieces 10 (joined 32 l) ++ q.0,
-      pieces_append 10 (joined 32 l) (lines_text ls) ∙ ap (λ (z : List (List ℕ)). pieces 10 (joined 32 l) ++ z) q.1
-          ∙ sym (append_assoc (pieces 10 (joined 32 l)) q.0 ([] ∷ [])),
-    )
+  -- it is the text of the words of its lines
+  pub text_of_lines : text ≡ lines_text (map words_in (take (line_count text) (lines text)))
+  text_of_lines =
+      l.same
+      ∙ ap lines_text (sym (ap (map words_in) (ap (take (line_count text)) the_lines ∙ take_at (map (joined 32) l.lines) ([] ∷ []) (line_count text) counted) ∙ words_back l.lines l.good))
+    where
+      words_back : (rows : List (List (List ℕ))) → are_lines rows ≡ true → map words_in (map (joined 32) rows) ≡ rows
+      words_back [] g = refl
+      words_back (w ∷ ws) g =
+          let k = and_parts (is_line w) (are_lines ws) g in
+          ap₂ (λ (x : List (List ℕ)) (xs : List (List (List ℕ))). x ∷ xs) (line_split w k.0) (words_back ws k.1)
 
--- pieces of which the last is empty are joined to a text of lines
-joined_lines : (ps : List (List ℕ)) → joined 10 (ps ++ [] ∷ []) ≡ lines_text (map words_in ps)
-joined_lines [] = refl
-joined_lines (p ∷ ps) =
-    ap₂ (λ (x y : List ℕ). x ++ y) (sym (joined_pieces 32 p))
-    (behind_joined 10 (ps ++ [] ∷ []) (omega (arith, length_push ps [])) ∙ ap (λ (z : List ℕ). 10 ∷ z) (joined_lines ps))
-
--- a text of lines is the text of the words of its lines
-pub text_of_lines : (text : List ℕ) → Lines text → text ≡ lines_text (map words_in (take (line_count text) (lines text)))
-text_of_lines text l =
-    let q = last_empty l.lines in
-    let e : lines text ≡ q.0 ++ [] ∷ [] = ap (pieces 10) l.same ∙ q.1 in
-    let front : take (line_count text) (lines text) ≡ q.0 =
-    ap (take (line_count text)) e ∙ take_at q.0 ([] ∷ []) (line_count text) (omega (arith, ap length e, length_push q.0 [])) in
-    sym (joined_pieces 10 text) ∙ ap (joined 10) e ∙ joined_lines q.0 ∙ ap (λ (z : List (List ℕ)). lines_text (map words_in z)) (sym front)
-
--- it ends with an empty piece
-pub last_line : (text : List ℕ) → Lines text → drop (line_count text) (lines text) ≡ [] ∷ []
-last_line text l =
-    let q = last_empty l.lines in
-    let e : lines text ≡ q.0 ++ [] ∷ [] = ap (pieces 10) l.same ∙ q.1 in
-    ap (drop (line_count text)) e ∙ drop_at q.0 ([] ∷ []) (line_count text) (omega (arith, ap length e, length_push q.0 []))
+  -- and ends with an empty piece
+  pub last_line : drop (line_count text) (lines text) ≡ [] ∷ []
+  last_line = ap (drop (line_count text)) the_lines ∙ drop_at (map (joined 32) l.lines) ([] ∷ []) (line_count text) counted
 
 -- lines, each joined from its words, and an empty piece are joined to their text
 pub rows_joined : (rows : List (List (List ℕ))) → joined 10 (map (joined 32) rows ++ [] ∷ []) ≡ lines_text rows

@@ -1,8 +1,10 @@
 -- The text of a task with names gives back the task and the names.
 use Rattle.std.proofs.Common.{◌≡◌, ℕ, suc, ◌+◌, ◌^◌, ◌<◌, ◌≤◌, true, ltb, leb, List, [], ◌∷◌, ◌++◌, map, length, get_or, take, drop, codes, sym, refl, ap, ◌∙◌, subst, add-one, arith}
 use Rattle.std.proofs.lemmas.List.{length-append, length-map, take_at}
+use Rattle.std.proofs.lemmas.List.Elements.{All-from_get_or}
+use Rattle.std.proofs.lemmas.List.Sums.{list_all-from_AllPass}
 use Rattle.std.proofs.lemmas.Bool.{and_from, and_parts, le-leb, leb-true, ltb-true}
-use Rattle.lines.specs.Grammar.{are_lines, joined, lines_text}
+use Rattle.lines.specs.Grammar.{is_line, are_lines, joined, lines_text}
 use Rattle.lines.specs.Checked.{Lined}
 use Rattle.pieces.specs.Pieces.{piece}
 use Rattle.words.specs.Words.{allowed, kind_of}
@@ -15,7 +17,7 @@ use Rattle.dual_text.specs.Written.{action_rows, rows_of, written, Named}
 use Rattle.dual_text.specs.Texts.{ReadsAs, IsReadBack}
 use Rattle.dual_text.proofs.Splitting.{lines_split, lines_counted, words_at}
 use Rattle.dual_text.proofs.Encoding.{now_tells, wish_tells}
-use Rattle.dual_text.proofs.Rows.{Row, set_read, action_rows_counted, action_rows_named, actions_read, names_read, all_lines, rows_made}
+use Rattle.dual_text.proofs.Rows.{Row, set_read, action_rows_counted, action_rows_named, actions_read, names_read, rows_made}
 
 -- the text is lines of an allowed length, and these are their words
 record Shows (text : List ℕ) (rows : List (List (List ℕ))) : Type 0 where
@@ -146,4 +148,6 @@ read_back facts actions t h f a l =
     reads (written facts actions t) facts actions t (shows (rows_of facts actions t) lines_good (omega arith) l) h f a
   where
     lines_good : are_lines (rows_of facts actions t) ≡ true
-    lines_good = all_lines (rows_of facts actions t) (λ r k. (rows_made facts actions t (length t.actions) f a r k).line)
+    lines_good =
+        list_all-from_AllPass is_line (rows_of facts actions t)
+        (All-from_get_or (λ row. is_line row ≡ true) (rows_of facts actions t) [] (λ r k. (rows_made facts actions t (length t.actions) f a r k).line))

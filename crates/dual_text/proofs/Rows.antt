@@ -1,10 +1,11 @@
 -- The lines of a task with names: their words are those that their columns allow, and give back the names and the actions.
-use Rattle.std.proofs.Common.{◌≡◌, ℕ, zero, suc, ◌^◌, ◌<◌, true, false, eqb, ltb, List, [], ◌∷◌, map, length, get_or, drop, codes, refl, ap, ◌∙◌, ap₂, arith}
-use Rattle.std.specs.List.{range_with_len, AllByRecursion as All}
+use Rattle.std.proofs.Common.{◌≡◌, ℕ, zero, suc, ◌+◌, ◌^◌, ◌<◌, true, ltb, List, [], ◌∷◌, map, length, get_or, drop, codes, refl, ap, ◌∙◌, ap₂, arith}
+use Rattle.std.specs.List.{range_with_len, All}
 use Rattle.std.proofs.lemmas.List.FromFn.{length-map-range_with_len}
-use Rattle.std.proofs.ByRecursion.{All-get_or}
+use Rattle.std.proofs.lemmas.List.Elements.{All-map}
+use Rattle.std.proofs.lemmas.List.Sums.{AllPass-from_list_all, list_all-from_AllPass}
 use Rattle.std.proofs.lemmas.Bool.{and_parts, and_from, ne_eqb, ltb-true}
-use Rattle.lines.specs.Grammar.{is_line, are_lines, are_words, joined}
+use Rattle.lines.specs.Grammar.{is_word, is_line, joined}
 use Rattle.pieces.specs.Pieces.{piece}
 use Rattle.words.specs.declared.kind.Kind.{Kind}
 use Rattle.words.specs.declared.kind.Kind.TheVariants as kind
@@ -16,6 +17,7 @@ use Rattle.strips.specs.Tasks.{Task, fine_action, fine_actions}
 use Rattle.sheet.specs.Grid.{words_in}
 use Rattle.sheet.specs.Reading.{set_of, marked, action_in}
 use Rattle.dual_text.specs.Written.{for_facts, action_words, action_rows, rows_of, are_names, Named}
+use Rattle.dual_text.proofs.AcceptedWords.{action_kind}
 use Rattle.dual_text.proofs.Splitting.{line_split}
 use Rattle.dual_text.proofs.Encoding.{set_of_words, mark_needs, mark_adds, mark_deletes, mark_made, now_allowed, wish_allowed, first_word, later_word}
 
@@ -29,31 +31,18 @@ pub record Row (k : Kind) (n : ℕ) (row : List (List ℕ)) : Type 0 where
 row_made : (k : Kind) (n : ℕ) (w : List ℕ) (ws : List (List ℕ)) → allowed_first k w ≡ true → length ws ≡ n
     → All (λ v. allowed_later k v ≡ true) ws → Row k n (w ∷ ws)
 row_made k n w ws f l a = record {
-  line = and_from _ _ (first_word k w f) (words ws a);
+  line = and_from _ _ (first_word k w f) (list_all-from_AllPass is_word ws (λ j d h. later_word k (get_or ws j d) (a j d h)));
   long = ap suc l;
   right = right;
 }
   where
-    words : (vs : List (List ℕ)) → All (λ v. allowed_later k v ≡ true) vs → are_words vs ≡ true
-    words [] h = refl
-    words (v ∷ vs) h = and_from _ _ (later_word k v h.0) (words vs h.1)
-
     right : (j : ℕ) → j < suc n → allowed k j (piece (w ∷ ws) j) ≡ true
     right zero h = f
-    right (suc j) h = rw (ne_eqb (suc j) 0 (λ e. omega arith)) (All-get_or (λ v. allowed_later k v ≡ true) ws j [] (omega arith) a)
+    right (suc j) h = rw (ne_eqb (suc j) 0 (λ e. omega arith)) (a j [] (omega arith))
 
 -- what holds of the word of every fact holds of the words for n facts
 for_each_fact : (P : List ℕ → Type 0) (word : ℕ → List ℕ) → ((i : ℕ) → P (word i)) → (n : ℕ) → All P (for_facts n word)
-for_each_fact P word f n = go (range_with_len 0 n)
-  where
-    go : (is : List ℕ) → All P (map word is)
-    go [] = tt
-    go (i ∷ is) = (f i, go is)
-
--- names, one by one
-each_name : (ws : List (List ℕ)) → are_names ws ≡ true → All (λ w. is_name w ≡ true) ws
-each_name [] h = tt
-each_name (w ∷ ws) h = let k = and_parts (is_name w) (are_names ws) h in (k.0, each_name ws k.1)
+for_each_fact P word f n = All-map P word (range_with_len 0 n) (λ k d h. f (get_or (range_with_len 0 n) k d))
 
 -- the set of a line's facts, read off its words for the facts
 pub set_read : (x w n : ℕ) (line first : List ℕ) (word : ℕ → List ℕ) → words_in line ≡ first ∷ for_facts n word
@@ -134,23 +123,14 @@ names_read n (name ∷ names) (p ∷ ps) e h =
     (ap (λ (z : List (List ℕ)). piece z 0) (line_split (action_words n name p) (action_row n name p k.0).line))
     (names_read n names ps (omega arith) k.1)
 
--- lines, where each is a line
-pub all_lines : (rows : List (List (List ℕ))) → ((r : ℕ) → r < length rows → is_line (get_or rows r []) ≡ true) → are_lines rows ≡ true
-all_lines [] h = refl
-all_lines (l ∷ ls) h = and_from _ _ (h 0 (omega arith)) (all_lines ls (λ r k. h (suc r) (omega arith)))
-
 -- every line past the third is an action's
 later_kind : (r : ℕ) → kind_of (suc (suc (suc r))) ≡ kind.Action
-later_kind r =
-    let first : eqb (suc (suc (suc r))) 0 ≡ false = ne_eqb _ 0 (λ e. omega arith) in
-    let second : eqb (suc (suc (suc r))) 1 ≡ false = ne_eqb _ 1 (λ e. omega arith) in
-    let third : eqb (suc (suc (suc r))) 2 ≡ false = ne_eqb _ 2 (λ e. omega arith) in
-    rw (first, second, third) refl
+later_kind r = let e : suc (suc (suc r)) ≡ r + 3 = omega arith in ap kind_of e ∙ action_kind r
 
 -- every line of a task with names is one of its kind
 pub rows_made : (facts actions : List (List ℕ)) (t : Task) (m : ℕ) → Named facts t.facts → Named actions m
     → (r : ℕ) → r < length (rows_of facts actions t) → Row (kind_of r) t.facts (get_or (rows_of facts actions t) r [])
-rows_made facts actions t m f a zero h = row_made kind.Facts t.facts (codes "line") facts refl f.count (each_name facts f.each)
+rows_made facts actions t m f a zero h = row_made kind.Facts t.facts (codes "line") facts refl f.count (AllPass-from_list_all is_name facts f.each)
 rows_made facts actions t m f a (suc zero) h =
     row_made kind.Now t.facts (codes "now") _ refl (length-map-range_with_len _ 0 t.facts)
     (for_each_fact (λ v. allowed_later kind.Now v ≡ true) _ (λ i. now_allowed (has t.state i)) t.facts)

@@ -1,6 +1,6 @@
 -- The text of a task with given names. Assumes nothing.
-use Rattle.std.specs.Prelude.{◌≡◌, ℕ, Bool, true, cond, ◌&&◌, List, [], ◌∷◌, map, length, codes}
-use Rattle.std.specs.List.{range_with_len}
+use Rattle.std.specs.Prelude.{◌≡◌, ℕ, Bool, true, cond, List, [], ◌∷◌, map, length, codes}
+use Rattle.std.specs.List.{list_all, range_with_len}
 use Rattle.lines.specs.Grammar.{lines_text}
 use Rattle.pieces.specs.Pieces.{piece}
 use Rattle.words.specs.Words.{is_name}
@@ -52,8 +52,7 @@ abbrev pub written : List (List ℕ) → List (List ℕ) → Task → List ℕ
 written facts actions t = lines_text (rows_of facts actions t)
 
 abbrev pub are_names : List (List ℕ) → Bool
-are_names [] = true
-are_names (w ∷ ws) = is_name w && are_names ws
+are_names ws = list_all is_name ws
 
 -- n names, no two of them the same
 pub record Named (names : List (List ℕ)) (n : ℕ) : Type 0 where
