@@ -1,84 +1,63 @@
 -- Texts and their pieces.
-use Rattle.std.proofs.Common.{◌≡◌, ℕ, zero, suc, ◌+◌, ◌-◌, ◌<◌, ◌≤◌, Bool, true, false, cond, not, ◌&&◌, ◌==◌, eqb, nat_le, ◌⊎◌, List, [], ◌∷◌, ◌++◌, length, get_or, take, drop, sym, refl, ap, ap₂, ◌∙◌, subst, inl, inr, arith}
-use Rattle.std.proofs.lemmas.List.{length-append, length-drop, length-take, get_or_at, get_or-drop, get_or_append_left, take_at, take_all, drop-drop}
-use Rattle.std.proofs.Math.Seq.{drop-append-add}
-use Rattle.std.proofs.lemmas.List.Sums.{count_by-le-length}
-use Rattle.std.proofs.lemmas.List.Splits.{length-slice_split}
-use Rattle.std.proofs.lemmas.Bool.{le-leb, lt-leb, cases_Bool, cases_lt, cases_eq, and_parts}
+use Rattle.std.proofs.Common.{◌≡◌, ℕ, zero, suc, ◌+◌, ◌-◌, ◌<◌, ◌≤◌, true, false, cond, not, ◌==◌, eqb, nat_le, ◌⊎◌, List, [], ◌∷◌, length, get_or, take, drop, sym, refl, ap, ap₂, ◌∙◌, subst, inl, inr, arith}
+use Rattle.std.specs.List.{onto_first, position_or_len}
+use Rattle.std.proofs.lemmas.List.{length-drop, get_or-drop, take_all, drop-drop}
+use Rattle.std.proofs.lemmas.List.Folds.{length-prefix_len}
+use Rattle.std.proofs.lemmas.List.Sums.{count_by-le-length, fails_before_first, position_or_len_is, prefix_len-le-length}
+use Rattle.std.proofs.lemmas.List.Splits.{length-slice_split, slice_split_first, slice_split_none}
+use Rattle.std.proofs.lemmas.Bool.{le-leb, lt-leb, cases_Bool, cases_lt, eq-eqb, ne_eqb}
 use Rattle.pieces.specs.Pieces.{pieces, spanned, place, piece, Ends, placed, pieces_left}
 use Rattle.pieces.specs.declared.Pieces.{Pieces}
 
--- no byte of the list is the separator
-abbrev pub lacks : ℕ → List ℕ → Bool
-lacks sep [] = true
-lacks sep (b ∷ bs) = not (eqb b sep) && lacks sep bs
+-- how many bytes stand in front of the first separator
+abbrev before : ℕ → List ℕ → ℕ
+before sep text = position_or_len (λ b. b == sep) text
 
 -- a text is one piece, or a piece, a separator and a text
-abbrev pub Split : ℕ → List ℕ → Type 0
+abbrev Split : ℕ → List ℕ → Type 0
 Split sep text =
-    ((p : List ℕ) × (lacks sep p ≡ true) × (text ≡ p) × (pieces sep text ≡ p ∷ []))
-    ⊎ ((p : List ℕ) × (bs : List ℕ) × (lacks sep p ≡ true) × (text ≡ p ++ sep ∷ bs) × (pieces sep text ≡ p ∷ pieces sep bs))
+    ((before sep text ≡ length text) × (pieces sep text ≡ text ∷ []))
+    ⊎ ((before sep text < length text) × (pieces sep text ≡ take (before sep text) text ∷ pieces sep (drop (before sep text + 1) text)))
 
-pub split : (sep : ℕ) (text : List ℕ) → Split sep text
-split sep [] = inl ([], refl, refl, refl)
-split sep (b ∷ bs) = go (cases_Bool (eqb b sep)) (split sep bs)
+split : (sep : ℕ) (text : List ℕ) → Split sep text
+split sep text = go (cases_lt (before sep text) (length text))
   where
-    go : (eqb b sep ≡ true) ⊎ (eqb b sep ≡ false) → Split sep bs → Split sep (b ∷ bs)
-    go (inl y) s = inr ([], bs, refl, grind arith, rw y refl)
-    go (inr n) (inl (p, l, e, q)) = inl (b ∷ p, rw (n, l) refl, ap (λ (z : List ℕ). b ∷ z) e, rw (n, q) refl)
-    go (inr n) (inr (p, r, l, e, q)) = inr (b ∷ p, r, rw (n, l) refl, ap (λ (z : List ℕ). b ∷ z) e, rw (n, q) refl)
+    go : (before sep text < length text) ⊎ (length text ≤ before sep text) → Split sep text
+    go (inl h) = inr (h, slice_split_first (λ b. b == sep) text 0 h)
+    go (inr h) = inl (
+      omega (arith, prefix_len-le-length (λ b. not (b == sep)) text),
+      slice_split_none (λ b. b == sep) text (λ k d l. fails_before_first (λ b. b == sep) text k d (omega arith)),
+    )
 
 -- a text has a piece
 pub some_piece : (sep : ℕ) (text : List ℕ) → 0 < length (pieces sep text)
-some_piece sep text = go (split sep text)
+some_piece sep text = omega (arith, length-slice_split (λ b. b == sep) text)
+
+-- the first piece stands in front of the first separator
+first_is : (sep : ℕ) (text : List ℕ) → piece (pieces sep text) 0 ≡ take (before sep text) text
+first_is sep text = go (split sep text)
   where
-    go : Split sep text → 0 < length (pieces sep text)
-    go (inl (p, l, t, q)) = omega (arith, ap length q)
-    go (inr (p, bs, l, t, q)) = omega (arith, ap length q)
+    go : Split sep text → piece (pieces sep text) 0 ≡ take (before sep text) text
+    go (inl (e, q)) = ap (λ (z : List (List ℕ)). piece z 0) q ∙ sym (take_all (before sep text) text (omega arith))
+    go (inr (h, q)) = ap (λ (z : List (List ℕ)). piece z 0) q
 
--- no place of a list that lacks the separator holds it
-lacks_at : (sep : ℕ) (p : List ℕ) (i d : ℕ) → lacks sep p ≡ true → i < length p → get_or p i d ≡ sep → ⊥
-lacks_at sep [] i d l h e = omega arith
-lacks_at sep (b ∷ bs) zero d l h e = grind arith
-lacks_at sep (b ∷ bs) (suc i) d l h e = lacks_at sep bs i d (and_parts _ _ l).1 (omega arith) e
+first_long : (sep : ℕ) (text : List ℕ) → length (piece (pieces sep text) 0) ≡ before sep text
+first_long sep text = ap length (first_is sep text) ∙ length-prefix_len (λ b. not (b == sep)) text
 
--- the first separator of a text ends its first piece
+-- it ends at the first separator of a text
 pub first_end : (sep : ℕ) (text : List ℕ) (e : ℕ) → e ≤ length text → ((i : ℕ) → i < e → get_or text i 0 ≡ sep → ⊥)
     → (e < length text → get_or text e 0 ≡ sep) → length (piece (pieces sep text) 0) ≡ e
-first_end sep text e h none here = go (split sep text)
-  where
-    go : Split sep text → length (piece (pieces sep text) 0) ≡ e
-    go (inl (p, l, t, q)) = rw q (whole (cases_lt e (length p)))
-      where
-        whole : (e < length p) ⊎ (length p ≤ e) → length p ≡ e
-        whole (inl lt) = absurd (lacks_at sep p e 0 l lt (subst (λ (z : List ℕ). get_or z e 0 ≡ sep) t (here (omega (arith, ap length t)))))
-        whole (inr le) = omega (arith, ap length t)
-    go (inr (p, bs, l, t, q)) = rw q (part (cases_lt e (length p)) (cases_eq (length p) e))
-      where
-        long : length text ≡ length p + suc (length bs)
-        long = ap length t ∙ length-append p (sep ∷ bs)
+first_end sep text e h none here =
+    first_long sep text
+    ∙ position_or_len_is (λ b. b == sep) text e 0 h (λ k l. ne_eqb (get_or text k 0) sep (none k l)) (λ l. eq-eqb (get_or text e 0) sep (here l))
 
-        part : (e < length p) ⊎ (length p ≤ e) → (length p ≡ e) ⊎ (length p ≡ e → ⊥) → length p ≡ e
-        part (inl lt) k =
-            absurd (lacks_at sep p e 0 l lt (sym (get_or_append_left p (sep ∷ bs) 0 e lt) ∙ subst (λ (z : List ℕ). get_or z e 0 ≡ sep) t (here (omega (arith, long)))))
-        part (inr le) (inl k) = k
-        part (inr le) (inr k) = absurd (none (length p) (omega arith) (ap (λ (z : List ℕ). get_or z (length p) 0) t ∙ get_or_at p sep bs 0 (length p) refl))
-
--- the first piece begins the text
+-- it begins the text
 pub first_piece : (sep : ℕ) (text : List ℕ) → take (length (piece (pieces sep text) 0)) text ≡ piece (pieces sep text) 0
-first_piece sep text = go (split sep text)
-  where
-    go : Split sep text → take (length (piece (pieces sep text) 0)) text ≡ piece (pieces sep text) 0
-    go (inl (p, l, t, q)) = rw (q, t) (take_all (length p) p (omega arith))
-    go (inr (p, bs, l, t, q)) = rw q (rw t (take_at p (sep ∷ bs) (length p) refl))
+first_piece sep text = ap (λ (n : ℕ). take n text) (first_long sep text) ∙ sym (first_is sep text)
 
 -- and is no longer than it
 pub first_inside : (sep : ℕ) (text : List ℕ) → length (piece (pieces sep text) 0) ≤ length text
-first_inside sep text = omega (arith, ap length (first_piece sep text), length-take (length (piece (pieces sep text) 0)) text)
-
--- what stands behind a piece and its separator
-behind : (sep : ℕ) (p bs : List ℕ) (n : ℕ) → drop (length p + suc n) (p ++ sep ∷ bs) ≡ drop n bs
-behind sep p bs n = drop-append-add p (sep ∷ bs) (suc n)
+first_inside sep text = omega (arith, first_long sep text, prefix_len-le-length (λ b. not (b == sep)) text)
 
 -- what is left of a text at the beginning of a piece is that piece and those after it
 pub record FromPiece (sep : ℕ) (text : List ℕ) (k : ℕ) : Type 0 where
@@ -90,16 +69,18 @@ from_piece sep text zero h = record { inside = omega arith; rest = refl }
 from_piece sep text (suc k) h = go (split sep text) (λ bs. from_piece sep bs k)
   where
     go : Split sep text → ((bs : List ℕ) → k < length (pieces sep bs) → FromPiece sep bs k) → FromPiece sep text (suc k)
-    go (inl (p, l, t, q)) f = absurd (omega (arith, ap length q))
-    go (inr (p, bs, l, t, q)) f =
-        let r = f bs (omega (arith, ap length q)) in
+    go (inl (e, q)) f = absurd (omega (arith, ap length q))
+    go (inr (l, q)) f =
+        let n = before sep text in
+        let rest = drop (n + 1) text in
+        let r = f rest (omega (arith, ap length q)) in
+        let long = length-prefix_len (λ b. not (b == sep)) text in
+        let gone : drop (length (take n text) + 1 + place (pieces sep rest) k) text ≡ drop (place (pieces sep rest) k) rest =
+        ap (λ (i : ℕ). drop i text) (omega arith) ∙ sym (drop-drop (place (pieces sep rest) k) (n + 1) text) in
         record {
-          inside = rw q (omega (arith, r.inside, ap length t, length-append p (sep ∷ bs)));
-          rest = rw q (ap (pieces sep) (gone (place (pieces sep bs) k)) ∙ r.rest);
+          inside = rw q (omega (arith, r.inside, length-drop (n + 1) text));
+          rest = rw q (ap (pieces sep) gone ∙ r.rest);
         }
-      where
-        gone : (n : ℕ) → drop (length p + 1 + n) text ≡ drop n bs
-        gone n = ap (λ (z : List ℕ). drop (length p + 1 + n) z) t ∙ ap (λ (m : ℕ). drop m (p ++ sep ∷ bs)) (omega arith) ∙ behind sep p bs n
 
 -- a piece stands in the text from where it begins
 pub piece_stands : (sep : ℕ) (text : List ℕ) (k : ℕ) → k < length (pieces sep text)
@@ -153,12 +134,15 @@ ends_past sep text at h = record {
 -- all pieces, each with a separator behind it, are one byte longer than the text
 pub spanned_all : (sep : ℕ) (text : List ℕ) → spanned (pieces sep text) ≡ length text + 1
 spanned_all sep [] = refl
-spanned_all sep (b ∷ bs) = go (cases_Bool (eqb b sep)) (split sep bs) (spanned_all sep bs)
+spanned_all sep (b ∷ bs) = go (cases_Bool (eqb b sep)) (spanned_all sep bs)
   where
-    go : (eqb b sep ≡ true) ⊎ (eqb b sep ≡ false) → Split sep bs → spanned (pieces sep bs) ≡ length bs + 1 → spanned (pieces sep (b ∷ bs)) ≡ suc (length bs) + 1
-    go (inl y) s e = rw y (omega (arith, e))
-    go (inr n) (inl (p, l, t, q)) e = rw (n, q) (omega (arith, ap spanned q, e))
-    go (inr n) (inr (p, r, l, t, q)) e = rw (n, q) (omega (arith, ap spanned q, e))
+    onto : (ps : List (List ℕ)) → 0 < length ps → spanned (onto_first b ps) ≡ suc (spanned ps)
+    onto [] h = absurd (omega arith)
+    onto (p ∷ ps) h = omega arith
+
+    go : (eqb b sep ≡ true) ⊎ (eqb b sep ≡ false) → spanned (pieces sep bs) ≡ length bs + 1 → spanned (pieces sep (b ∷ bs)) ≡ suc (length bs) + 1
+    go (inl y) e = rw y (omega (arith, e))
+    go (inr n) e = rw n (omega (arith, e, onto (pieces sep bs) (some_piece sep bs)))
 
 -- past the last piece the place is one past the text
 pub place_past : (sep : ℕ) (text : List ℕ) (k : ℕ) → length (pieces sep text) ≤ k → place (pieces sep text) k ≡ length text + 1
@@ -177,18 +161,27 @@ pub left_more : (sep : ℕ) (text : List ℕ) (at e : ℕ) → at ≤ length tex
     → placed at (pieces sep (drop at text)) ≡ (at, take (e - at) (drop at text)) ∷ cond (nat_le (e + 1) (length text)) (placed (e + 1) (pieces sep (drop (e + 1) text))) []
 left_more sep text at e h x = go (split sep (drop at text))
   where
-    go : Split sep (drop at text)
-        → placed at (pieces sep (drop at text)) ≡ (at, take (e - at) (drop at text)) ∷ cond (nat_le (e + 1) (length text)) (placed (e + 1) (pieces sep (drop (e + 1) text))) []
-    go (inl (p, l, t, q)) =
-        let a : length p ≡ length text - at = sym (ap length t) ∙ length-drop at text in
-        let b : e ≡ at + length p = x ∙ ap (λ (z : List (List ℕ)). at + length (piece z 0)) q in
-        rw (q, t, lt-leb (e + 1) (length text) (omega arith)) (ap (λ (z : List ℕ). (at, z) ∷ []) (sym (take_all (e - at) p (omega arith))))
-    go (inr (p, bs, l, t, q)) =
-        let a : length p + suc (length bs) ≡ length text - at = sym (ap length t ∙ length-append p (sep ∷ bs)) ∙ length-drop at text in
-        let b : e ≡ at + length p = x ∙ ap (λ (z : List (List ℕ)). at + length (piece z 0)) q in
-        let f : drop (e + 1) text ≡ bs = ap (λ (n : ℕ). drop n text) (omega arith) ∙ sym (drop-drop (length p + suc 0) at text) ∙ ap (drop (length p + suc 0)) t ∙ behind sep p bs 0 in
-        rw (q, le-leb (e + 1) (length text) (omega arith), f, t)
-        (ap₂ (λ (z : List ℕ) (n : ℕ). (at, z) ∷ placed n (pieces sep bs)) (sym (take_at p (sep ∷ bs) (e - at) (omega arith))) (omega arith))
+    rest : List ℕ
+    rest = drop at text
+
+    n : ℕ
+    n = before sep rest
+
+    ends : e ≡ at + n
+    ends = x ∙ ap (λ (m : ℕ). at + m) (first_long sep rest)
+
+    go : Split sep rest → placed at (pieces sep rest) ≡ (at, take (e - at) rest) ∷ cond (nat_le (e + 1) (length text)) (placed (e + 1) (pieces sep (drop (e + 1) text))) []
+    go (inl (u, q)) =
+        let a = length-drop at text in
+        let z = ends in
+        rw (q, lt-leb (e + 1) (length text) (omega arith)) (ap (λ (z : List ℕ). (at, z) ∷ []) (sym (take_all (e - at) rest (omega arith))))
+    go (inr (l, q)) =
+        let a = length-drop at text in
+        let z = ends in
+        let f : drop (e + 1) text ≡ drop (n + 1) rest = ap (λ (m : ℕ). drop m text) (omega arith) ∙ sym (drop-drop (n + 1) at text) in
+        let long = length-prefix_len (λ b. not (b == sep)) rest in
+        rw (q, le-leb (e + 1) (length text) (omega arith), f)
+        (ap₂ (λ (z : List ℕ) (m : ℕ). (at, z) ∷ placed m (pieces sep (drop (n + 1) rest))) (ap (λ (m : ℕ). take m rest) (omega arith)) (omega arith))
 
 -- what is left at a place of the text
 pub left_from : (s : Pieces) → s.at ≤ length s.text.now → pieces_left s ≡ placed s.at (pieces s.sep (drop s.at s.text.now))
