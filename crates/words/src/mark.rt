@@ -12,7 +12,7 @@ pub struct Mark {
 }
 
 // A word that is no mark.
-#[derive(Clone, Copy)]
+#[derive(Clone, Copy, Debug)]
 pub struct NoMark;
 
 // What a mark's last letter was: the letters come in this order, and a hyphen alone.
