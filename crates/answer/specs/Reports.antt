@@ -1,5 +1,6 @@
 -- The answer as text. Assumes nothing.
 use Rattle.std.specs.Prelude.{◌≡◌, ℕ, ◌<◌, ◌⊎◌, List, [], ◌∷◌, ◌++◌, length, take, replicate, Ok, Err, codes, decimal, Result, slice_index}
+use Rattle.std.specs.List.{flat_map}
 use Rattle.fault.specs.declared.Fault.{Fault}
 use Rattle.fault.specs.Refusals.{fault_text}
 use Rattle.bfs.specs.declared.Outcome.{Outcome}
@@ -20,10 +21,13 @@ abbrev pub head_text : Result Outcome Fault → List ℕ
 head_text (Ok o) = outcome_text o
 head_text (Err f) = codes "answer length rows\nrefused " ++ (fault_text f ++ codes "\n")
 
+-- the name of an action, with a line end
+abbrev pub name_line : List ℕ → ℕ → List ℕ
+name_line text k = action_name text k ++ (10 ∷ [])
+
 -- the names of actions, one to a line
 abbrev pub names_text : List ℕ → List ℕ → List ℕ
-names_text text [] = []
-names_text text (k ∷ ks) = action_name text k ++ (10 ∷ names_text text ks)
+names_text text ks = flat_map (name_line text) ks
 
 -- every number of a list is that of an action
 abbrev pub InRange : List ℕ → List ℕ → Type 0

@@ -10,7 +10,7 @@ use bfs::{Link, Outcome};
 use directions::plan_in;
 use fault::Fault;
 use sheet::read_task;
-pub use written::report;
+pub use written::{ROWS, report};
 
 // The direction in which a text is planned: forward.
 const FORWARD: usize = 0;

@@ -1,8 +1,7 @@
 // The answer of planning on a sheet, as text.
-ghost use Rattle.std.specs.Prelude.{◌≡◌, ℕ, ◌<◌, List, [], ◌∷◌, ◌++◌, IfOk, string_bytes, OnOk};
-ghost use Rattle.sheet.specs.Grid.{action_count, action_name};
-ghost use Rattle.sheet.specs.Sheets.{OfText};
-ghost use Rattle.answer.specs.Reports.{outcome_text, head_text, names_text, InRange, outcome_length, plan_length, shown_plan, answer_text, Nameable, Reported};
+ghost use Rattle.std.specs.Prelude.{◌≡◌, ◌<◌, ◌++◌, IfOk, string_bytes, OnOk};
+ghost use Rattle.sheet.specs.Grid.{action_count};
+ghost use Rattle.answer.specs.Reports.{head_text, name_line, names_text, InRange, shown_plan, answer_text, Nameable, Reported};
 
 use crate::plan_text;
 use bfs::{Link, Outcome};
@@ -11,35 +10,26 @@ use sheet::Sheet;
 use std::alloc::{AllocError, Global};
 
 // The rows and the plan places that a search may fill.
-const ROWS: usize = 2_048;
+pub const ROWS: usize = 2_048;
 
-// The first two lines of an answer that is not refused: below the first, answer, plan length and rows.
-fn outcome_text(heap: Global, outcome: Outcome) -> Result<String, AllocError>
-    ensures { IfOk result (λ s. string_bytes s ≡ outcome_text outcome) }
-{
-    match outcome {
-        Outcome::Plan((length, rows)) => {
-            format!(in heap; "answer length rows\nplan {length} {rows}\n")
-        }
-        Outcome::NoPlan(rows) => format!(in heap; "answer length rows\nnone 0 {rows}\n"),
-    }
-}
-
-// The first two lines of an answer.
+// The first two lines of an answer: below the first, answer, plan length and rows.
 fn head_text(heap: Global, answer: Result<Outcome, Fault>) -> Result<String, AllocError>
     ensures { IfOk result (λ s. string_bytes s ≡ head_text answer) }
 {
     match answer {
-        Ok(outcome) => outcome_text(heap, outcome),
+        Ok(Outcome::Plan((length, rows))) => {
+            format!(in heap; "answer length rows\nplan {length} {rows}\n")
+        }
+        Ok(Outcome::NoPlan(rows)) => format!(in heap; "answer length rows\nnone 0 {rows}\n"),
         Err(fault) => format!(in heap; "answer length rows\nrefused {fault}\n"),
     }
 }
 
 // Puts the name of an action behind what is written, with a line end.
-fn push_name(out: &mut Vec<u8>, sheet: Sheet<'_>, k: u16) -> Result<(), AllocError>
-    ensures { OnOk result (((text : List ℕ) → OfText text sheet.entry → k < action_count text → out.new.items ≡ out.old.items ++ (action_name text k ++ (10 ∷ [])))) }
+fn push_name(out: &mut Vec<u8>, sheet: &Sheet<'_>, k: u16) -> Result<(), AllocError>
+    ensures { OnOk result (k < action_count sheet.now → out.new.items ≡ out.old.items ++ name_line sheet.now k) }
 {
-    if let Some(name) = sheet.action_name(k as usize) {
+    if let Some(name) = sheet.action_name(usize::from(k)) {
         out.extend_from_slice(name.bytes)?;
         out.push(b'\n')?;
     }
@@ -47,8 +37,8 @@ fn push_name(out: &mut Vec<u8>, sheet: Sheet<'_>, k: u16) -> Result<(), AllocErr
 }
 
 // Puts the names of a plan's actions behind what is written, one to a line.
-fn push_names(out: &mut Vec<u8>, sheet: Sheet<'_>, plan: &[u16]) -> Result<(), AllocError>
-    ensures { OnOk result (((text : List ℕ) → OfText text sheet.entry → InRange text plan.now → out.new.items ≡ out.old.items ++ names_text text plan.now)) }
+fn push_names(out: &mut Vec<u8>, sheet: &Sheet<'_>, plan: &[u16]) -> Result<(), AllocError>
+    ensures { OnOk result (InRange sheet.now plan.now → out.new.items ≡ out.old.items ++ names_text sheet.now plan.now) }
 {
     for k in plan {
         push_name(out, sheet, *k)?;
@@ -56,47 +46,24 @@ fn push_names(out: &mut Vec<u8>, sheet: Sheet<'_>, plan: &[u16]) -> Result<(), A
     Ok(())
 }
 
-// The length of the plan that an outcome has: 0 where it has none.
-fn outcome_length(outcome: Outcome) -> usize
-    ensures { result ≡ outcome_length outcome }
-{
-    match outcome {
-        Outcome::Plan((length, _)) => length,
-        Outcome::NoPlan(_) => 0,
-    }
-}
-
-// The length of the plan that an answer shows: 0 where it shows none.
-fn plan_length(answer: Result<Outcome, Fault>) -> usize
-    ensures { result ≡ plan_length answer }
-{
-    match answer {
-        Ok(outcome) => outcome_length(outcome),
-        Err(_) => 0,
-    }
-}
-
 // The plan that an answer shows, at the front of the plan slice.
 fn shown_plan(answer: Result<Outcome, Fault>, plan: &[u16]) -> &[u16]
     ensures { result.now ≡ shown_plan answer plan.now }
 {
-    let length = plan_length(answer);
-    if length < plan.len() {
-        &plan[..length]
-    } else {
-        plan
+    match answer {
+        Ok(Outcome::Plan((length, _))) => plan.get(..length).unwrap_or(plan),
+        Ok(Outcome::NoPlan(_)) | Err(_) => &[],
     }
 }
 
 // Puts the names of a plan's actions behind what is written, where the text is a sheet.
 fn push_plan(out: &mut Vec<u8>, text: &[u8], plan: &[u16]) -> Result<(), AllocError>
-    ensures { OnOk result ((Nameable text.now plan.now → out.new.items ≡ out.old.items ++ names_text text.now plan.now)) }
+    ensures { OnOk result (Nameable text.now plan.now → out.new.items ≡ out.old.items ++ names_text text.now plan.now) }
 {
     let Ok(sheet) = Sheet::read(text) else {
         return Ok(());
     };
-    push_names(out, sheet, plan)?;
-    Ok(())
+    push_names(out, &sheet, plan)
 }
 
 // The answer as text.
@@ -123,6 +90,5 @@ pub fn report(heap: Global, text: &[u8]) -> Result<Vec<u8>, AllocError>
     let mut links = [Link::ORIGIN; ROWS];
     let mut plan = [0u16; ROWS];
     let answer = plan_text(text, &mut nodes, &mut links, &mut plan);
-    let written = answer_text(heap, text, answer, &plan)?;
-    Ok(written)
+    answer_text(heap, text, answer, &plan)
 }

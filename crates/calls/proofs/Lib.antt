@@ -1,3 +1,2 @@
 mod Answering
-mod Copying
 mod Lengths

@@ -1,22 +1,20 @@
 -- What the parts of planning into a buffer of bytes answer; only inner functions cite these. Assumes nothing.
-use Rattle.std.specs.Prelude.{◌≡◌, ℕ, ◌<◌, ◌≤◌, List, length, take, ℤ, pos, slice_index}
-use Rattle.bfs.specs.declared.Outcome.{Outcome}
-use Rattle.bfs.specs.declared.Outcome.TheVariants.{Plan, NoPlan}
+use Rattle.std.specs.Prelude.{◌≡◌, ℕ, ◌<◌, ◌≤◌, List, length, take, ℤ, Ok, Err, Result, slice_index}
+use Rattle.fault.specs.declared.Fault.{Fault}
+use Rattle.fault.specs.declared.Fault.TheVariants.{TooFewPlaces}
 use Rattle.bfs.specs.Tables.{Past}
-use Rattle.calls.specs.Calls.{minus, none}
+use Rattle.calls.specs.Calls.{refusing}
 
 -- each number is a byte
 abbrev pub InBytes : List ℕ → Type 0
 InBytes ks = (i : ℕ) → i < length ks → slice_index ks i < 256
 
--- numbers are copied into a buffer, a byte for each, where it has room for them
-pub record Copied (ks before after : List ℕ) (r : ℤ) : Type 0 where
-  pub short : length before < length ks → (after ≡ before) × (r ≡ minus 16)
-  pub length_is : length ks ≤ length before → r ≡ pos (length ks)
-  pub front : length ks ≤ length before → InBytes ks → take (length ks) after ≡ ks
-  pub rest : length ks ≤ length before → Past (length ks) before after
+-- numbers stand at the front of a buffer, a byte for each, and past them it is as it was; or it has no room for them, and is as it was
+abbrev pub Copied : (ks before after : List ℕ) → Result (Unit {0}) Fault → Type 0
+Copied ks before after (Ok _) = (length ks ≤ length before) × (take (length ks) after ≡ ks) × Past (length ks) before after
+Copied ks before after (Err f) = (f ≡ TooFewPlaces) × (length before < length ks) × (after ≡ before)
 
--- an outcome as a number: a plan's length, with the plan copied, or minus 100
-abbrev pub Numbered : Outcome → (moves before after : List ℕ) → ℤ → Type 0
-Numbered (Plan p) moves before after r = Copied (take p.0 moves) before after r
-Numbered (NoPlan rows) moves before after r = (after ≡ before) × (r ≡ none)
+-- a result as one number: a refusal as minus its number
+abbrev pub answer_in : Result ℤ Fault → ℤ
+answer_in (Ok r) = r
+answer_in (Err f) = refusing f

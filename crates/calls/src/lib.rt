@@ -37,7 +37,7 @@ pub extern "C" fn luzafoma_dualise(text: &[u8], out: &mut [u8]) -> i32
     ensures { Dualised text.now out.old out.new result }
 {
     match write_dual(text, out) {
-        Ok(length) => length as i32,
+        Ok(length) => i32::try_from(length).unwrap(),
         Err(fault) => answer_of(fault),
     }
 }

@@ -1,39 +1,39 @@
 // Planning on a text into a buffer of bytes.
-ghost use Rattle.std.specs.Prelude.{◌≤◌, length};
-ghost use Rattle.answer.specs.Reports.{outcome_length};
 ghost use Rattle.calls.specs.Calls.{Planned};
-ghost use Rattle.calls.specs.Copies.{Copied, Numbered};
+ghost use Rattle.calls.specs.Copies.{Copied, InBytes, answer_in};
 
 use crate::{NONE, answer_of};
-use answer::plan_text;
+use answer::{ROWS, plan_text};
 use bfs::{Link, Outcome};
 use fault::Fault;
 
-// The rows that a search may fill.
-const ROWS: usize = 2_048;
-
-// Copies action numbers into a buffer, a byte for each, and answers how many; minus 16 where the buffer has too few places.
-fn copy_numbers(numbers: &[u16], out: &mut [u8]) -> i32
-    requires { length numbers.now ≤ 2048 }
+// Copies action numbers into a buffer, a byte for each; refuses a buffer with too few places.
+fn copy_numbers(numbers: &[u16], out: &mut [u8]) -> Result<(), Fault>
+    requires { InBytes numbers.now }
     ensures { Copied numbers.now out.old out.new result }
 {
     if out.len() < numbers.len() {
-        return answer_of(Fault::TooFewPlaces);
+        return Err(Fault::TooFewPlaces);
     }
     for (i, number) in numbers.iter().enumerate() {
-        out[i] = (*number & 0xff) as u8;
+        out[i] = u8::try_from(*number).unwrap();
     }
-    numbers.len() as i32
+    Ok(())
 }
 
-// An outcome as a number, with a plan copied into the buffer.
-fn number_of(outcome: Outcome, moves: &[u16], plan: &mut [u8]) -> i32
-    requires { (outcome_length outcome ≤ length moves.now) × (length moves.now ≤ 2048) }
-    ensures { Numbered outcome moves.now plan.old plan.new result }
+// Plans on a text, and copies a plan into the buffer: the plan's length, or minus 100 where there is no plan.
+fn plan_into(text: &[u8], plan: &mut [u8]) -> Result<i32, Fault>
+    ensures { Planned text.now plan.old plan.new (answer_in result) }
 {
-    match outcome {
-        Outcome::Plan((length, _)) => copy_numbers(&moves[..length], plan),
-        Outcome::NoPlan(_) => NONE,
+    let mut nodes = [0u64; ROWS];
+    let mut links = [Link::ORIGIN; ROWS];
+    let mut moves = [0u16; ROWS];
+    match plan_text(text, &mut nodes, &mut links, &mut moves)? {
+        Outcome::Plan((length, _)) => {
+            copy_numbers(&moves[..length], plan)?;
+            Ok(i32::try_from(length).unwrap())
+        }
+        Outcome::NoPlan(_) => Ok(NONE),
     }
 }
 
@@ -43,11 +43,8 @@ fn number_of(outcome: Outcome, moves: &[u16], plan: &mut [u8]) -> i32
 pub extern "C" fn luzafoma_plan(text: &[u8], plan: &mut [u8]) -> i32
     ensures { Planned text.now plan.old plan.new result }
 {
-    let mut nodes = [0u64; ROWS];
-    let mut links = [Link::ORIGIN; ROWS];
-    let mut moves = [0u16; ROWS];
-    match plan_text(text, &mut nodes, &mut links, &mut moves) {
-        Ok(outcome) => number_of(outcome, &moves, plan),
+    match plan_into(text, plan) {
+        Ok(number) => number,
         Err(fault) => answer_of(fault),
     }
 }

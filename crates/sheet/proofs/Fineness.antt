@@ -1,11 +1,11 @@
 -- What is read from an accepted text is a task.
-use Rattle.std.proofs.Common.{◌≡◌, ℕ, suc, ◌+◌, ◌^◌, ◌<◌, true, List, [], ◌∷◌, map, length, get_or, drop, is_some, Some, None, Option, refl, ap, ◌∙◌, subst, arith}
+use Rattle.std.proofs.Common.{◌≡◌, ℕ, suc, ◌+◌, ◌^◌, ◌<◌, ◌≤◌, true, List, [], ◌∷◌, map, length, get_or, drop, IsSome, Some, None, Option, refl, ap, ◌∙◌, subst, arith}
 use Rattle.std.proofs.lemmas.List.{get_or-take, get_or-drop, length-map, length-take-le, length-drop}
 use Rattle.std.proofs.lemmas.Bool.{le-leb, lt-ltb, both_ways}
 use Rattle.strips.specs.declared.action.Action.{Action}
 use Rattle.strips.specs.declared.task.Task.{Task as Owned}
-use Rattle.strips.specs.Tasks.{Task, fine, fine_actions}
-use Rattle.strips.specs.Views.{task_in, Made}
+use Rattle.strips.specs.Tasks.{fine, fine_actions}
+use Rattle.strips.specs.Views.{Made}
 use Rattle.words.specs.Words.{holds}
 use Rattle.sheet.specs.Grid.{lines, line_count, line_at, words_in, word_count, cells, fact_count, action_count, action_lines}
 use Rattle.sheet.specs.Reading.{marked, action_in, task_of, Accepted}
@@ -52,16 +52,16 @@ task_fine text a =
     in_line : (k : ℕ) → k < action_count text → length (words_in (get_or (action_lines text) k [])) ≡ fact_count text + 1
     in_line k h = rw (action_line_at text k h) (words (k + 3) (omega arith))
 
--- so a task with the text's facts, actions, state and goal is made, and is the text's
+-- at most 256 actions
+pub few_actions : (text : List ℕ) → Accepted text → length (task_of text).actions ≤ 256
+few_actions text a = omega (arith, length-map (action_lines text) action_in, the_action_lines text, a.sized.actions)
+
+-- so a task with the text's facts, actions, state and goal is made
 pub task_made : (text : List ℕ) (facts : ℕ) (actions : List Action) (state goal : ℕ) (r : Option Owned) → Accepted text
     → facts ≡ (task_of text).facts → actions ≡ (task_of text).actions → state ≡ (task_of text).state → goal ≡ (task_of text).goal
-    → Made (record { facts = facts; actions = actions; state = state; goal = goal }) r
-    → (is_some r ≡ true) × ((t : Owned) → r ≡ Some t → task_in t ≡ task_of text)
-task_made text facts actions state goal r a f p s g m = (some r made, λ t q. (subst (Made (task_of text)) q made).1)
+    → Made (record { facts = facts; actions = actions; state = state; goal = goal }) r → IsSome r
+task_made text facts actions state goal r a f p s g m = some r (rw (f, p, s, g) at m)
   where
-    made : Made (task_of text) r
-    made = subst (λ (h : Task). Made h r) (λ k. record { facts = f k; actions = p k; state = s k; goal = g k }) m
-
-    some : (r : Option Owned) → Made (task_of text) r → is_some r ≡ true
+    some : (r : Option Owned) → Made (task_of text) r → IsSome r
     some (Some t) m = refl
     some None m = absurd (both_ways (fine (task_of text)) m (task_fine text a))

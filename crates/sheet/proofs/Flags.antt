@@ -1,7 +1,7 @@
 -- Sets of facts as flags in their order.
-use Rattle.std.proofs.Common.{◌≡◌, ℕ, zero, suc, ◌+◌, ◌*◌, ◌^◌, ◌<◌, ◌≤◌, Bool, true, false, cond, ◌||◌, eqb, ◌⊎◌, List, [], ◌∷◌, map, length, get_or, take, Decides, sym, refl, ap, ◌∙◌, subst, inl, inr, pow-suc, arith}
+use Rattle.std.proofs.Common.{◌≡◌, ℕ, zero, suc, ◌+◌, ◌*◌, ◌^◌, ◌<◌, ◌≤◌, Bool, true, false, cond, ◌==◌, List, [], ◌∷◌, map, length, get_or, take, Decides, sym, refl, ap, ◌∙◌, subst, pow-suc, arith}
 use Rattle.std.proofs.lemmas.List.{get_or-map, get_or-drop, length-drop, length-map, length-take-le, take_all}
-use Rattle.std.proofs.lemmas.Bool.{or_cases, or_left, or_right, eqb-true, eq-eqb}
+use Rattle.std.proofs.lemmas.Bool.Decides.{Decides-by_or, Decides-eqb}
 use Rattle.std.specs.List.{ContainsAt as Has}
 use Rattle.strips.specs.declared.action.Action.{Action}
 use Rattle.words.specs.Words.{holds}
@@ -65,16 +65,7 @@ sofar_all x line i h = ap set_of (take_all i (map (holds x) (cells line)) (omega
 
 -- a letter is in a word exactly where it is at some place of it
 pub holds_decides : (x : ℕ) (w : List ℕ) → Decides (holds x w) (Has w x)
-holds_decides x [] = (λ e. let z : ◌≡◌ {A = ℕ} 0 1 = cc in absurd (omega arith), λ (k, l, a). absurd (omega arith))
-holds_decides x (b ∷ bs) = (λ e. found (or_cases (eqb b x) (holds x bs) e) (holds_decides x bs).0, at (holds_decides x bs).1)
-  where
-    found : (eqb b x ≡ true) ⊎ (holds x bs ≡ true) → (holds x bs ≡ true → Has bs x) → Has (b ∷ bs) x
-    found (inl e) f = (0, omega arith, λ d. eqb-true b x e)
-    found (inr e) f = let h = f e in (suc h.0, omega (arith, h.1), λ d. h.2 d)
-
-    at : (Has bs x → holds x bs ≡ true) → Has (b ∷ bs) x → (eqb b x || holds x bs) ≡ true
-    at f (zero, l, a) = or_left (eqb b x) (holds x bs) (eq-eqb b x (a 0))
-    at f (suc k, l, a) = or_right (eqb b x) (holds x bs) (f (k, omega arith, λ d. a d))
+holds_decides x w = Decides-by_or (λ b. b == x) (λ b. b ≡ x) (holds x) (λ b. Decides-eqb b x) refl (λ _ _. refl) w
 
 -- the action read so far from a line of marks
 pub record ReadSoFar (line : List ℕ) (i : ℕ) (p : Action) : Type 0 where

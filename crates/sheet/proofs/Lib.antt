@@ -2,6 +2,7 @@ mod Accepting
 pub mod Fineness
 mod Flags
 pub mod Once
+mod Lefts
 mod Placing
 mod Repeats
-mod Tables
+mod Turns

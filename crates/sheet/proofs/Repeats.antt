@@ -1,60 +1,147 @@
 -- Names that come again.
-use Rattle.std.proofs.Common.{◌≡◌, ℕ, ◌+◌, ◌<◌, ◌≤◌, List, [], map, length, get_or, take, set, Some, None, Option, sym, ap, ◌∙◌, arith, Bor, below_more}
-use Rattle.std.proofs.lemmas.List.{get_or-map, get_or-set_same, get_or-set_other, get_or-take, length-map, length-take-le}
-use Rattle.sheet.specs.Reading.{Apart}
-use Rattle.sheet.specs.Repeats.{name_in, FirstRepeat, OfNames}
+use Rattle.std.proofs.Common.{◌≡◌, ℕ, zero, suc, ◌+◌, ◌<◌, ◌≤◌, true, false, eqb, inl, inr, subst, Some, None, Option, MatchOption, List, [], ◌∷◌, ◌++◌, map, length, get_or, take, drop, sym, refl, ap, ◌∙◌, arith, below_more, Bor}
+use Rattle.std.proofs.lemmas.List.{get_or-map, get_or-take, get_or-drop, length-map, length-take-le, length-drop, map_more, map-append}
+use Rattle.std.proofs.lemmas.Slice.Eq.{slice_eq-Decides}
+use Rattle.std.proofs.lemmas.Bool.{both_ways, and_parts, not-true}
+use Rattle.std.proofs.lemmas.Bool.Decides.{Decides-eqb}
+use lib.Pointwise.{pointwise}
+use Rattle.fault.specs.declared.Fault.{Fault}
+use Rattle.fault.specs.Refusals.{spot}
+use Rattle.pieces.specs.Pieces.{pieces, place, piece}
+use Rattle.pieces.proofs.Splits.{lacks, Split, split}
+use Rattle.sheet.specs.Grid.{words_in, line_at, fact_name}
+use Rattle.sheet.specs.Reading.{Apart, Repeated, AgainIn, fact_again, action_again}
+use Rattle.sheet.specs.Repeats.{name_of_piece, FirstRepeat}
+use Rattle.pieces.proofs.Walk.{Here}
+use Rattle.sheet.proofs.Turns.{passed, passed_few, turn_at}
 
--- equal slices are equal names
-pub names_equal : (names : List (Bor (List ℕ))) (i j : ℕ) (d : Bor (List ℕ)) → i < length names → j < length names
-    → (get_or names i d).now ≡ (get_or names j d).now → name_in (map (λ n. n.now) names) i ≡ name_in (map (λ n. n.now) names) j
-names_equal names i j d h g e = get_or-map _ names i d _ h ∙ e ∙ sym (get_or-map _ names j d _ g)
-
--- and equal names are equal slices
-pub slices_equal : (names : List (Bor (List ℕ))) (i j : ℕ) (d : Bor (List ℕ)) → i < length names → j < length names
-    → name_in (map (λ n. n.now) names) i ≡ name_in (map (λ n. n.now) names) j → (get_or names i d).now ≡ (get_or names j d).now
-slices_equal names i j d h g e = sym (get_or-map _ names i d _ h) ∙ e ∙ get_or-map _ names j d _ g
-
--- one name more that no earlier one equals
-pub apart_more : (name : ℕ → List ℕ) (n : ℕ) → Apart name n → ((i : ℕ) → i < n → name i ≡ name n → ⊥) → Apart name (n + 1)
-apart_more name n h g i j lt k = below_more (λ j. i < j → name i ≡ name j → ⊥) n (λ j k lt. h i j lt k) (λ lt. g i lt) j k lt
-
--- the first n slices are the names
-abbrev pub Filled : (ℕ → List ℕ) → List (Bor (List ℕ)) → ℕ → Type 0
-Filled name refs n = (j : ℕ) (d : Bor (List ℕ)) → j < n → (get_or refs j d).now ≡ name j
-
--- one slice more
-pub filled_more : (name : ℕ → List ℕ) (refs : List (Bor (List ℕ))) (n : ℕ) (r : Bor (List ℕ)) → n < length refs → Filled name refs n → r.now ≡ name n
-    → Filled name (set refs n r) (n + 1)
-filled_more name refs n r h f e j d = below_more (λ j. (get_or (set refs n r) j d).now ≡ name j) n
-    (λ j l. ap (λ x. x.now) (get_or-set_other refs n j r d (λ q. omega arith)) ∙ f j d l) (ap (λ x. x.now) (get_or-set_same refs n r d h) ∙ e) j
+-- the first word of a piece
+abbrev pub first_word : List ℕ → List ℕ
+first_word p = piece (words_in p) 0
 
 -- an empty slice, for a default that no statement looks at
 nowhere : Bor (List ℕ)
 nowhere = record { ref_ptr = (0, 0); now = [] }
 
--- what is found of the slices holds of the names
-pub found : (name : ℕ → List ℕ) (refs : List (Bor (List ℕ))) (n : ℕ) (r : Option ℕ) → n ≤ length refs → Filled name refs n
-    → FirstRepeat (map (λ n. n.now) (take n refs)) r → OfNames name n r
-found name refs n r h f s = moved r s
+-- these are the names of the first n pieces past the first ones
+abbrev pub Held : (sep : ℕ) → (text : List ℕ) → (past : ℕ) → List (Bor (List ℕ)) → ℕ → Type 0
+Held sep text past names n = map (λ w. w.now) names ≡ map first_word (take n (drop past (pieces sep text)))
+
+-- one turn of the loop: names are held of n pieces, and x is the next
+module _ (sep : ℕ) (text : List ℕ) (past count : ℕ) (names : List (Bor (List ℕ))) (n : ℕ) (held : Held sep text past names n) (x : ℕ × List ℕ)
+    (turn : (n < length (passed (pieces sep text) past count)) × (x ≡ get_or (passed (pieces sep text) past count) n x)) where
+  later : List (List ℕ)
+  later = drop past (pieces sep text)
+
+  name : ℕ → List ℕ
+  name = name_of_piece sep text past
+
+  stands : Here (pieces sep text) (n + past) x.0 x.1
+  stands = turn_at (pieces sep text) past count n x turn
+
+  now : n < count
+  now = omega (arith, turn.0, passed_few (pieces sep text) past count)
+
+  enough : n < length later
+  unfolding later
+  enough = omega (arith, stands.inside, length-drop past (pieces sep text))
+
+  long : length names ≡ n
+  unfolding later
+  long =
+      sym (length-map names (λ w. w.now)) ∙ ap length held ∙ length-map (take n later) first_word ∙ length-take-le n later (omega (arith, enough))
+
+  named : (k : ℕ) → first_word (get_or later k []) ≡ name k
+  unfolding later name
+  named k = ap first_word (get_or-drop past (pieces sep text) k [] ∙ ap (piece (pieces sep text)) (omega arith))
+
+  held_at : (k : ℕ) → k < n → (get_or names k nowhere).now ≡ name k
+  unfolding later
+  held_at k h =
+      sym (get_or-map (λ w. w.now) names k nowhere [] (omega (arith, long))) ∙ ap (λ (ws : List (List ℕ)). get_or ws k []) held
+      ∙ get_or-map first_word (take n later) k [] [] (omega (arith, length-take-le n later (omega (arith, enough)))) ∙ ap first_word (get_or-take n later k [] h) ∙ named k
+
+  -- there is room for it
+  pub room : count ≤ 256 → length names < 256
+  room few = omega (arith, long, now, few)
+
+  module _ (w : Bor (List ℕ)) (is : w.now ≡ first_word x.1) where
+    here : w.now ≡ name n
+    unfolding name
+    here = is ∙ ap first_word stands.is
+
+    -- one of them is its name
+    pub found : Apart (name_of_piece sep text past) n → (k : ℕ) × (k < length names) × ((d : Bor (List ℕ)) → pointwise eqb (get_or names k d).now w.now ≡ true)
+        → FirstRepeat sep text past count (Some x.0)
+    unfolding name
+    found apart (k, l, e) =
+        let before : k < n = omega (arith, long) in (
+          n,
+          record {
+            inside = now;
+            earlier = k;
+            before = before;
+            again = sym (held_at k before) ∙ (slice_eq-Decides Decides-eqb _ _ _ refl).0 (e nowhere) ∙ here;
+            first = apart;
+          },
+          stands.begins,
+        )
+
+    -- or none is
+    pub apart_more : (next : ℕ) → next ≡ n + 1 → Apart (name_of_piece sep text past) n
+        → ((k : ℕ) → (d : Bor (List ℕ)) → 0 ≤ k → k < length names → pointwise eqb (get_or names k d).now w.now ≡ false) → Apart (name_of_piece sep text past) next
+    unfolding name
+    apart_more next e apart none i j lt k = below_more (λ j. i < j → name i ≡ name j → ⊥) n (λ j k lt. apart i j lt k) last j (omega arith) lt
+      where
+        last : i < n → name i ≡ name n → ⊥
+        last h q = both_ways _ (none i nowhere (omega arith) (omega (arith, long))) ((slice_eq-Decides Decides-eqb _ _ _ refl).1 (held_at i h ∙ q ∙ sym here))
+
+    -- and then it is held too
+    pub held_more : (next : ℕ) (more : List (Bor (List ℕ))) → next ≡ n + 1 → more ≡ names ++ w ∷ [] → Held sep text past more next
+    unfolding later
+    held_more next more e q =
+        rw (e, q)
+        (map-append (λ w. w.now) names (w ∷ [])
+        ∙ rw (held, here) (sym (map_more first_word later n [] enough ∙ ap (λ (p : List ℕ). map first_word (take n later) ++ p ∷ []) (named n))))
+
+-- a list that lacks the separator is one piece
+one_piece : (sep : ℕ) (p : List ℕ) → lacks sep p ≡ true → pieces sep p ≡ p ∷ []
+one_piece sep [] l = refl
+one_piece sep (b ∷ p) l =
+    let h = and_parts _ (lacks sep p) l in
+    let n : eqb b sep ≡ false = not-true (eqb b sep) h.0 in
+    let r = one_piece sep p h.1 in
+    rw (n, r) refl
+
+-- so the first piece of a piece is the whole piece
+first_of_piece : (sep : ℕ) (text : List ℕ) (k : ℕ) → piece (pieces sep (piece (pieces sep text) k)) 0 ≡ piece (pieces sep text) k
+first_of_piece sep text zero = go (split sep text)
   where
-    shown : List (List ℕ)
-    shown = map (λ n. n.now) (take n refs)
+    go : Split sep text → piece (pieces sep (piece (pieces sep text) 0)) 0 ≡ piece (pieces sep text) 0
+    go (inl (p, l, t, q)) = rw q (ap (λ (ps : List (List ℕ)). piece ps 0) (one_piece sep p l))
+    go (inr (p, bs, l, t, q)) = rw q (ap (λ (ps : List (List ℕ)). piece ps 0) (one_piece sep p l))
+first_of_piece sep text (suc k) = go (split sep text) (λ bs. first_of_piece sep bs k)
+  where
+    go : Split sep text → ((bs : List ℕ) → piece (pieces sep (piece (pieces sep bs) k)) 0 ≡ piece (pieces sep bs) k)
+        → piece (pieces sep (piece (pieces sep text) (suc k))) 0 ≡ piece (pieces sep text) (suc k)
+    go (inl (p, l, t, q)) f = rw q refl
+    go (inr (p, bs, l, t, q)) f = rw q (f bs)
 
-    long : length shown ≡ n
-    long = length-map (take n refs) (λ n. n.now) ∙ length-take-le n refs h
+-- the words of the first line past its first word are the facts' names
+fact_names : (text : List ℕ) → name_of_piece 32 (line_at text 0) 1 ≡ fact_name text
+fact_names text = λ t i. first_of_piece 32 (line_at text 0) (i + 1) t
 
-    is : (j : ℕ) → j < n → name_in shown j ≡ name j
-    is j l = get_or-map (λ n. n.now) (take n refs) j nowhere [] (omega (arith, length-take-le n refs h)) ∙ ap (λ x. x.now) (get_or-take n refs j nowhere l) ∙ f j nowhere l
+module _ (text : List ℕ) (facts actions : ℕ) (f : Fault) where
+  -- what is found among the words of the first line
+  pub facts_told : (line : List ℕ) (r : Option ℕ) → line ≡ line_at text 0 → FirstRepeat 32 line 1 facts r
+      → MatchOption r (Apart (fact_name text) facts) (λ at. spot f ≡ at → AgainIn text facts actions f)
+  facts_told line None e a = subst (λ (name : ℕ → List ℕ). Apart name facts) (ap (λ (l : List ℕ). name_of_piece 32 l 1) e ∙ fact_names text) a
+  facts_told line (Some at) e (i, r, b) = λ h. fact_again (record {
+    index = i;
+    repeated = subst (λ (name : ℕ → List ℕ). Repeated name facts i) (ap (λ (l : List ℕ). name_of_piece 32 l 1) e ∙ fact_names text) r;
+    here = h ∙ b ∙ ap (λ (l : List ℕ). place (words_in l) (i + 1)) e ∙ omega arith;
+  })
 
-    apart : (k : ℕ) → k ≤ n → Apart (name_in shown) k → Apart name k
-    apart k l a i j lt g e = a i j lt g (is i (omega arith) ∙ e ∙ sym (is j (omega arith)))
-
-    moved : (r : Option ℕ) → FirstRepeat shown r → OfNames name n r
-    moved (Some i) s = let z = s.inside in record {
-      inside = omega (arith, long);
-      earlier = s.earlier;
-      before = s.before;
-      again = sym (is s.earlier (omega (arith, long, s.before))) ∙ s.again ∙ is i (omega (arith, long));
-      first = apart i (omega (arith, long)) s.first;
-    }
-    moved None s = apart n (omega arith) (λ i j lt g. s i j lt (omega (arith, long)))
+  -- and among the lines of the actions
+  pub actions_told : (at : ℕ) → Apart (fact_name text) facts → FirstRepeat 10 text 3 actions (Some at) → spot f ≡ at → AgainIn text facts actions f
+  actions_told at apart (i, r, b) h = action_again apart (record { index = i; repeated = r; here = h ∙ b })

@@ -1,6 +1,7 @@
 pub mod Grid
 pub mod Reading
 pub mod Shape
+pub mod Left
 pub mod Repeats
 pub mod Sheets
 pub mod Exactness

@@ -8,13 +8,13 @@ use Rattle.pieces.specs.Pieces.{place, piece}
 use Rattle.strips.specs.declared.action.Action.{Action}
 use Rattle.words.specs.declared.kind.Kind.{Kind}
 use Rattle.words.specs.Words.{allowed, is_mark, holds}
-use Rattle.sheet.specs.Grid.{line_count, words_in, fact_count, action_count}
-use Rattle.sheet.specs.Reading.{Missized, Sized, Even, Uneven, Right, IsWrongWord}
-use Rattle.sheet.specs.declared.shape.Shape.{Shape}
+use Rattle.sheet.specs.Grid.{line_count, words_in}
+use Rattle.sheet.specs.Reading.{Missized, Even, Uneven, Right, IsWrongWord}
+use Rattle.sheet.specs.declared.grid.Grid.{Grid}
 
--- the counts of facts and actions, or 3
-abbrev pub Measured : List ℕ → Result Shape Fault → Type 0
-Measured text (Ok s) = Sized text × (s.facts ≡ fact_count text) × (s.actions ≡ action_count text)
+-- the text with its size, or 3
+abbrev pub Measured : List ℕ → Result Grid Fault → Type 0
+Measured text (Ok g) = g.text.now ≡ text
 Measured text (Err f) = (refusal f ≡ refused 3 Lines (At (spot f))) × Missized text f
 
 -- all lines have as many words as the first, or 4

@@ -1,30 +1,48 @@
 // The actions of a sheet, one at a time.
-ghost use Rattle.std.specs.Prelude.{ℕ, List};
-ghost use Rattle.sheet.specs.Sheets.{Stands, NextOf};
-
 use crate::sets::action_in;
-use pieces::{piece_end, piece_from};
+use pieces::Pieces;
+use std::iter::Skip;
+use std::marker::Model;
 use strips::Action;
 
-// What is left of a sheet's actions: the line of the next begins at a place of the text.
-#[derive(Clone, Copy)]
+// What is left of a sheet's actions: a clause sees them as a list.
+#[derive(Drop)]
 pub struct Actions<'a> {
-    pub(crate) text: &'a [u8],
-    pub(crate) at: usize,
+    pub(crate) lines: Skip<Pieces<'a>>,
     pub(crate) left: usize,
 }
 
-impl Actions<'_> {
+impl<'a> Model for Actions<'a> {
+    ghost use Rattle.std.specs.Prelude.{List, map};
+    ghost use Rattle.std.specs.List.{All};
+    ghost use Rattle.strips.specs.declared.action.Action.{Action as PlainAction};
+    ghost use Rattle.sheet.specs.Reading.{action_in};
+    ghost use Rattle.sheet.specs.Shape.{GoodMarks};
+    ghost use Rattle.sheet.specs.Left.{lines_left};
+
+    ghost Value = { List PlainAction };
+
+    ghost view = { λ a. map action_in (lines_left a.lines a.left) };
+
+    ghost invariant = { λ a. All GoodMarks (lines_left a.lines a.left) };
+}
+
+impl<'a> Iterator for Actions<'a> {
+    ghost use Rattle.std.specs.Iterator.{YieldsFirst, item_count};
+
+    type Item = Action;
+
+    ghost next_gives = { YieldsFirst (λ actions. actions) };
+
+    ghost remaining = { item_count (λ actions. actions) };
+
     // Reads the next action; None where none is left.
-    pub fn next(&mut self) -> Option<Action>
-        ensures { (text : List ℕ) (k : ℕ) → Stands text k self.old → NextOf text k result self.new }
-    {
+    fn next(&mut self) -> Option<Action> {
         if self.left == 0 {
             return None;
         }
-        let line = piece_from(self.text, b'\n', self.at);
-        self.at = piece_end(self.text, b'\n', self.at) + 1;
         self.left -= 1;
-        Some(action_in(line))
+        let line = self.lines.next()?;
+        Some(action_in(line.bytes))
     }
 }

@@ -1,23 +1,32 @@
 // The sheet reader: a task's parts, read from the lent text.
-ghost use Rattle.std.specs.Prelude.{◌≡◌, ℕ, ◌+◌, ◌<◌, List, length};
-ghost use Rattle.sheet.specs.Grid.{lines, line_at, fact_count, fact_name, action_count, action_name, word_start, line_start};
+ghost use Rattle.std.specs.Prelude.{◌≡◌, ◌+◌};
+ghost use Rattle.sheet.specs.Grid.{fact_count, fact_name, action_count, action_name, word_start, line_start};
 ghost use Rattle.sheet.specs.Reading.{task_of};
-ghost use Rattle.sheet.specs.Sheets.{SheetRead, OfText, NameOf, Stands};
+ghost use Rattle.sheet.specs.Sheets.{SheetRead, NameOf};
 
 use crate::actions::Actions;
-use crate::names::{check_names, first_line, first_word};
+use crate::grid::{Grid, HEAD_LINES};
 use crate::sets::ones_in;
-use crate::shape::{HEAD_LINES, Shape, check_even, measure};
-use crate::wrong::check_words;
 use fault::Fault;
 use lines::check_lines;
-use pieces::{piece_from, piece_start};
+use pieces::{Pieces, piece_at};
+use std::marker::Model;
 
-// A sheet's text that was accepted.
-#[derive(Clone, Copy)]
+// A sheet's text that was accepted. A clause sees the text.
+#[derive(Drop)]
 pub struct Sheet<'a> {
-    text: &'a [u8],
-    shape: Shape,
+    pub(crate) grid: Grid<'a>,
+}
+
+impl<'a> Model for Sheet<'a> {
+    ghost use Rattle.std.specs.Prelude.{ℕ, List};
+    ghost use Rattle.sheet.specs.Reading.{Accepted};
+
+    ghost Value = { List ℕ };
+
+    ghost view = { λ s. s.grid.text.now };
+
+    ghost invariant = { λ s. Accepted s.grid.text.now };
 }
 
 // A name: a part of the text, and the offset where it begins there.
@@ -27,93 +36,83 @@ pub struct Name<'a> {
     pub offset: usize,
 }
 
-// A line of a text by its number.
-fn line_at(text: &[u8], row: usize) -> &[u8]
-    ensures { row < length (lines text.now) → result.now ≡ line_at text.now row }
-{
-    piece_from(text, b'\n', piece_start(text, b'\n', row))
-}
-
 impl<'a> Sheet<'a> {
     // Reads a text; refuses one that is no sheet, with the place.
     pub fn read(text: &'a [u8]) -> Result<Sheet<'a>, Fault>
         ensures { SheetRead text.now result }
     {
         check_lines(text)?;
-        let shape = measure(text)?;
-        let facts = shape.facts as usize;
-        let actions = shape.actions as usize;
-        check_even(text, actions + HEAD_LINES, facts)?;
-        check_words(text, actions + HEAD_LINES)?;
-        check_names(text, facts, actions)?;
-        Ok(Sheet { text, shape })
+        let grid = Grid::measure(text)?;
+        grid.check_even()?;
+        grid.check_words()?;
+        grid.check_names()?;
+        Ok(Sheet { grid })
     }
 
     // The number of facts.
     pub fn fact_count(&self) -> usize
-        ensures { (text : List ℕ) → OfText text self.now → result ≡ fact_count text }
+        ensures { result ≡ fact_count self.now }
     {
-        usize::from(self.shape.facts)
+        self.grid.facts
     }
 
     // The number of actions.
     pub fn action_count(&self) -> usize
-        ensures { (text : List ℕ) → OfText text self.now → result ≡ action_count text }
+        ensures { result ≡ action_count self.now }
     {
-        usize::from(self.shape.actions)
+        self.grid.actions
     }
 
     // The facts that hold now.
     pub fn state(&self) -> u64
-        ensures { (text : List ℕ) → OfText text self.now → result ≡ (task_of text).state }
+        ensures { result ≡ (task_of self.now).state }
     {
-        ones_in(line_at(self.text, 1))
+        ones_in(piece_at(self.grid.text, b'\n', 1))
     }
 
     // The facts that are to hold.
     pub fn goal(&self) -> u64
-        ensures { (text : List ℕ) → OfText text self.now → result ≡ (task_of text).goal }
+        ensures { result ≡ (task_of self.now).goal }
     {
-        ones_in(line_at(self.text, 2))
+        ones_in(piece_at(self.grid.text, b'\n', 2))
     }
 
     // The actions, one at a time.
     pub fn actions(&self) -> Actions<'a>
-        ensures { (text : List ℕ) → OfText text self.now → Stands text 0 result }
+        ensures { result ≡ (task_of self.now).actions }
     {
+        let grid = &self.grid;
         Actions {
-            text: self.text,
-            at: piece_start(self.text, b'\n', HEAD_LINES),
-            left: self.shape.actions as usize,
+            lines: Pieces::of(grid.text, b'\n').skip(HEAD_LINES),
+            left: grid.actions,
         }
     }
 
     // The name of a fact.
     pub fn fact_name(&self, i: usize) -> Option<Name<'a>>
-        ensures { (text : List ℕ) → OfText text self.now → NameOf (fact_count text) (fact_name text i) (word_start text 0 (i + 1)) i result }
+        ensures { NameOf (fact_count self.now) (fact_name self.now i) (word_start self.now 0 (i + 1)) i result }
     {
-        if i >= self.shape.facts as usize {
+        if i >= self.fact_count() {
             return None;
         }
-        let line = first_line(self.text);
-        let offset = piece_start(line, b' ', i + 1);
-        Some(Name {
-            bytes: piece_from(line, b' ', offset),
-            offset,
+        let words = Pieces::of(piece_at(self.grid.text, b'\n', 0), b' ');
+        words.skip(1).nth(i).map(|word| Name {
+            bytes: word.bytes,
+            offset: word.start,
         })
     }
 
     // The name of an action.
     pub fn action_name(&self, k: usize) -> Option<Name<'a>>
-        ensures { (text : List ℕ) → OfText text self.now → NameOf (action_count text) (action_name text k) (line_start text (k + 3)) k result }
+        ensures { NameOf (action_count self.now) (action_name self.now k) (line_start self.now (k + 3)) k result }
     {
-        if k >= self.shape.actions as usize {
+        if k >= self.action_count() {
             return None;
         }
-        let offset = piece_start(self.text, b'\n', k + HEAD_LINES);
-        Some(Name {
-            bytes: first_word(piece_from(self.text, b'\n', offset)),
-            offset,
+        let lines = Pieces::of(self.grid.text, b'\n');
+        lines.skip(HEAD_LINES).nth(k).map(|line| Name {
+            bytes: piece_at(line.bytes, b' ', 0),
+            offset: line.start,
         })
     }
 }

@@ -5,9 +5,8 @@ ghost use Rattle.sheet.specs.Grid.{words_in};
 ghost use Rattle.sheet.specs.Reading.{marked, action_in};
 ghost use Rattle.sheet.specs.Shape.{GoodMarks, MarkedMore};
 
-use crate::shape::MAX_FACTS;
-use pieces::{piece_end, separators};
-use strips::Action;
+use pieces::Pieces;
+use strips::{Action, MAX_FACTS};
 use words::Mark;
 
 // A set of facts below i, with fact i where it is in it.
@@ -19,32 +18,22 @@ fn with_fact(facts: u64, i: usize, is_in: bool) -> u64
 }
 
 // Whether a word has the letter.
+#[tactic(auto, using(crate::proofs::Flags::holds_decides))]
 fn has_letter(word: &[u8], letter: u8) -> bool
     ensures { result ≡ holds letter word.now }
 {
     word.contains(&letter)
 }
 
-// The number of words past the first, at most 64.
-fn columns(line: &[u8]) -> usize
-    ensures few { result ≤ 64 }
-    ensures inside { result + 1 ≤ length (words_in line.now) }
-    ensures all { length (words_in line.now) ≤ 65 → result + 1 ≡ length (words_in line.now) }
-{
-    let words = separators(line, b' ');
-    if words > MAX_FACTS { MAX_FACTS } else { words }
-}
-
 // The facts with a 1 in the line.
+#[tactic(auto, using(crate::proofs::Flags::sofar_more, crate::proofs::Flags::sofar_all))]
 pub fn ones_in(line: &[u8]) -> u64
     ensures { length (words_in line.now) ≤ 65 → result ≡ marked 49 line.now }
 {
     let mut ones = 0;
-    let mut at = piece_end(line, b' ', 0) + 1;
-    for i in 0..columns(line) {
-        let end = piece_end(line, b' ', at);
-        ones = with_fact(ones, i, has_letter(&line[at..end], b'1'));
-        at = end + 1;
+    let words = Pieces::of(line, b' ').skip(1).take(MAX_FACTS);
+    for (i, word) in words.enumerate() {
+        ones = with_fact(ones, i, has_letter(word.bytes, b'1'));
     }
     ones
 }
@@ -65,15 +54,14 @@ fn with_mark(action: Action, i: usize, word: &[u8]) -> Action
 }
 
 // The action of a line of marks.
+#[tactic(auto, using(crate::proofs::Flags::read_more, crate::proofs::Flags::read_all))]
 pub fn action_in(line: &[u8]) -> Action
     ensures { GoodMarks line.now → result ≡ action_in line.now }
 {
     let mut action = Action::IDLE;
-    let mut at = piece_end(line, b' ', 0) + 1;
-    for i in 0..columns(line) {
-        let end = piece_end(line, b' ', at);
-        action = with_mark(action, i, &line[at..end]);
-        at = end + 1;
+    let words = Pieces::of(line, b' ').skip(1).take(MAX_FACTS);
+    for (i, word) in words.enumerate() {
+        action = with_mark(action, i, word.bytes);
     }
     action
 }

@@ -1,39 +1,36 @@
 // Words that their column does not allow.
-ghost use Rattle.std.specs.Prelude.{◌≡◌};
-ghost use Rattle.sheet.specs.Grid.{line_count};
 ghost use Rattle.sheet.specs.Shape.{Worded, WrongOf};
 
+use crate::grid::{Grid, HEAD_LINES};
 use fault::Fault;
-use pieces::{piece_end, separators};
+use pieces::Pieces;
 use words::Kind;
 
 // Where the first word of a line begins that its column does not allow, if there is one.
+#[tactic(auto, using(crate::proofs::Placing::piece_inside))]
 fn wrong_in(line: &[u8], kind: Kind) -> Option<usize>
     ensures { WrongOf line.now kind result }
 {
-    let mut at = 0;
-    for column in 0..separators(line, b' ') + 1 {
-        let end = piece_end(line, b' ', at);
-        if !kind.allows(column, &line[at..end]) {
-            return Some(at);
+    for (column, word) in Pieces::of(line, b' ').enumerate() {
+        if !kind.allows(column, word.bytes) {
+            return Some(word.start);
         }
-        at = end + 1;
     }
     None
 }
 
-// Refuses the first word that its column does not allow.
-pub fn check_words(text: &[u8], lines: usize) -> Result<(), Fault>
-    requires { lines ≡ line_count text.now }
-    ensures { Worded text.now result }
-{
-    let mut at = 0;
-    for row in 0..lines {
-        let end = piece_end(text, b'\n', at);
-        if let Some(offset) = wrong_in(&text[at..end], Kind::of_row(row)) {
-            return Err(Fault::WrongWord(at + offset));
+impl Grid<'_> {
+    // Refuses the first word that its column does not allow.
+    #[tactic(auto, using(crate::proofs::Placing::piece_inside))]
+    pub fn check_words(&self) -> Result<(), Fault>
+        ensures { Worded self.now.text.now result }
+    {
+        let lines = Pieces::of(self.text, b'\n').enumerate();
+        for (row, line) in lines.take(self.actions + HEAD_LINES) {
+            if let Some(offset) = wrong_in(line.bytes, Kind::of_row(row)) {
+                return Err(Fault::WrongWord(line.start + offset));
+            }
         }
-        at = end + 1;
+        Ok(())
     }
-    Ok(())
 }

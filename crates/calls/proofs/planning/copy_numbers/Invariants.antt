@@ -1,5 +1,5 @@
-use Rattle.calls.proofs.Copying.{Begun}
+use Rattle.std.proofs.Common.{◌≡◌, length, take, drop}
 use Rattle.calls.proofs.planning.copy_numbers.Given as goal
 
 abbrev pub invariant-loop-i : goal.invariant-loop-i
-invariant-loop-i l = Begun l.numbers l.initial.out l.i l.out
+invariant-loop-i l = (take l.i l.out ≡ take l.i l.numbers) × (drop (length l.numbers) l.out ≡ drop (length l.numbers) l.initial.out)

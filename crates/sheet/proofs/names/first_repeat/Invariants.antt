@@ -1,7 +1,13 @@
-use Rattle.std.proofs.Common.{map}
+use Rattle.std.proofs.Common.{length}
 use Rattle.sheet.specs.Reading.{Apart}
-use Rattle.sheet.specs.Repeats.{name_in}
+use Rattle.sheet.specs.Repeats.{name_of_piece}
+use Rattle.sheet.proofs.Repeats.{Held}
 use Rattle.sheet.proofs.names.first_repeat.Given as goal
 
-abbrev pub invariant-loop-i : goal.invariant-loop-i
-invariant-loop-i l = Apart (name_in (map (λ n. n.now) l.names)) l.i
+abbrev pub invariant-loop-piece : goal.invariant-loop-piece
+invariant-loop-piece l = record {
+  can : (goal.iterator-loop-piece).can_next l.piece-iterator;
+  ends : (goal.iterator-loop-piece).is_finite l.piece-iterator;
+  held : Held l.sep l.text l.past l.names.items (length l.yielded);
+  apart : Apart (name_of_piece l.sep l.text l.past) (length l.yielded);
+}

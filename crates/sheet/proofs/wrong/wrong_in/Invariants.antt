@@ -1,8 +1,10 @@
-use Rattle.std.proofs.Common.{◌≡◌}
-use Rattle.pieces.specs.Pieces.{place}
-use Rattle.sheet.specs.Grid.{words_in}
+use Rattle.std.proofs.Common.{length}
 use Rattle.sheet.specs.Shape.{GoodWords}
 use Rattle.sheet.proofs.wrong.wrong_in.Given as goal
 
 abbrev pub invariant-loop-column : goal.invariant-loop-column
-invariant-loop-column l = (l.at ≡ place (words_in l.line) l.column) × GoodWords l.line l.kind l.column
+invariant-loop-column l = record {
+  can : (goal.iterator-loop-column).can_next l.column-iterator;
+  ends : (goal.iterator-loop-column).is_finite l.column-iterator;
+  good : GoodWords l.line l.kind (length l.yielded);
+}
