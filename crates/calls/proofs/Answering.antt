@@ -1,10 +1,10 @@
 -- From what planning on a text answers to what the call answers.
-use Rattle.std.proofs.Common.{◌≡◌, ℕ, ◌<◌, ◌≤◌, List, length, take, pos, Ok, Err, sym, refl, ap, ◌∙◌, subst, arith}
+use Rattle.std.proofs.Common.{◌≡◌, ℕ, ◌≤◌, List, length, take, pos, Ok, Err, sym, refl, ap, ◌∙◌, subst, arith}
 use Rattle.std.proofs.lemmas.List.{length-replicate, length-take-le, length-map}
 use Rattle.fault.specs.declared.Fault.{Fault}
 use Rattle.fault.specs.Refusals.{Refusal}
 use Rattle.space.specs.Rows.{node_at, More}
-use Rattle.bfs.specs.declared.Outcome.TheVariants.{Plan, NoPlan}
+use Rattle.bfs.specs.declared.Outcome.TheVariants.{Plan}
 use Rattle.bfs.specs.Tables.{link_at, origin, Past}
 use Rattle.bfs.specs.Answers.{Buffers, Tables, capacity, Filled, rows_short, places_short}
 use Rattle.directions.specs.Planning.{no_direction, no_room}
@@ -16,7 +16,7 @@ use Rattle.sheet.proofs.Fineness.{the_action_lines}
 use Rattle.answer.specs.Planned.{PlannedOn, no_sheet, not_planned}
 use Rattle.answer.specs.Reports.{fresh}
 use Rattle.answer.proofs.Showing.{plan_in_range}
-use Rattle.calls.specs.Calls.{minus, refusing, none, Fits, Planned, too_few_rows, too_few_places, no_plan, shown, no_sheet as no-sheet-told}
+use Rattle.calls.specs.Calls.{minus, refusing, Fits, Planned, too_few_rows, shown, no_sheet as no-sheet-told}
 use Rattle.calls.specs.Copies.{InBytes}
 use Rattle.calls.proofs.Lengths.{nearest_below}
 
@@ -44,17 +44,13 @@ module _ (text out : List ℕ) (after : Buffers ℕ) where
       let below = nearest_below m (node_at m after.rows.nodes) (link_at after.rows.links) x.used x.filled.table x.d x.nearest x.filled.count in
       absurd (omega (arith, below, x.filled.room, room, x.over, places))
 
-  -- no plan
-  pub none_told : (used : ℕ) → PlannedOn text (fresh 2048) after (Ok (NoPlan used)) → Planned text out out none
-  none_told used (a, s) = no_plan a (filled_fits text after.rows used s.1.filled) s.1.hopeless refl refl
-
   module _ (p : ℕ × ℕ) (s : PlannedOn text (fresh 2048) after (Ok (Plan p))) where
     -- the plan's numbers
     abbrev pub moves : List ℕ
     moves = take p.0 after.plan
 
     -- they are as many as the plan is long, and few
-    pub plan_fits : (p.0 ≤ length after.plan) × (p.0 ≤ 2048)
+    plan_fits : (p.0 ≤ length after.plan) × (p.0 ≤ 2048)
     plan_fits = (omega (arith, s.1.1.fits, s.1.1.plan_past.long), omega (arith, s.1.1.fits, s.1.1.plan_past.long, places))
 
     long : length moves ≡ p.0
@@ -67,10 +63,6 @@ module _ (text out : List ℕ) (after : Buffers ℕ) where
 
     fits : Fits (forward (task_of text)) 2048
     fits = filled_fits text after.rows p.1 s.1.1.filled
-
-    -- a plan without room
-    pub short_told : length out < length moves → Planned text out out (minus 16)
-    short_told h = too_few_places s.0 (record { d = p.0; fits = fits; nearest = s.1.1.nearest; over = omega (arith, long) }) refl refl
 
     -- a plan that is copied
     pub copied_told : (out' : List ℕ) → length moves ≤ length out → take (length moves) out' ≡ moves → Past (length moves) out out' → Planned text out out' (pos p.0)

@@ -1,5 +1,5 @@
-// A text of the size of a sheet. A definition that names the type cannot be cited in the file of the type, so its methods stand in shape,
-// wrong and names.
+// The type of a text of the size of a sheet. A definition that names a type cannot be cited in the file of the type, so its methods stand
+// in shape, wrong and names.
 ghost use Rattle.std.specs.Prelude.{◌≡◌};
 ghost use Rattle.sheet.specs.Grid.{fact_count, action_count};
 ghost use Rattle.sheet.specs.Reading.{Sized};

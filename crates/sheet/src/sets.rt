@@ -26,7 +26,6 @@ fn has_letter(word: &[u8], letter: u8) -> bool
 }
 
 // The facts with a 1 in the line.
-#[tactic(auto, using(crate::proofs::Flags::sofar_more, crate::proofs::Flags::sofar_all))]
 pub fn ones_in(line: &[u8]) -> u64
     ensures { length (words_in line.now) ≤ 65 → result ≡ marked 49 line.now }
 {
@@ -43,9 +42,7 @@ fn with_mark(action: Action, i: usize, word: &[u8]) -> Action
     requires { i < 64 }
     ensures { is_mark word.now ≡ true → MarkedMore action i word.now result }
 {
-    let Ok(mark) = Mark::try_from(word) else {
-        return action;
-    };
+    let mark = Mark::try_from(word).unwrap_or_default();
     Action {
         needs: with_fact(action.needs, i, mark.needs),
         adds: with_fact(action.adds, i, mark.adds),
@@ -54,7 +51,6 @@ fn with_mark(action: Action, i: usize, word: &[u8]) -> Action
 }
 
 // The action of a line of marks.
-#[tactic(auto, using(crate::proofs::Flags::read_more, crate::proofs::Flags::read_all))]
 pub fn action_in(line: &[u8]) -> Action
     ensures { GoodMarks line.now → result ≡ action_in line.now }
 {
