@@ -166,6 +166,7 @@ impl<'a, N: Copy> NodeTable<'a, N> {
     fn target_from<S: Space<Node = N>>(&self, space: &S, first: usize) -> Option<usize>
         requires { first ≤ self.now.used }
         ensures found { (i : ℕ) → result ≡ Some i → (first ≤ i) × (i < self.now.used) × ((S.Space.meaning space.now).target (node_at (S.Space.meaning space.now) self.now.rows.now i) ≡ true) }
+        ensures first { (i h : ℕ) → result ≡ Some i → first + h < i → (S.Space.meaning space.now).target (node_at (S.Space.meaning space.now) self.now.rows.now (first + h)) ≡ false }
         ensures missed { result ≡ None → (i : ℕ) → first + i < self.now.used → (S.Space.meaning space.now).target (node_at (S.Space.meaning space.now) self.now.rows.now (first + i)) ≡ false }
     {
         self.rows[first..self.used]
