@@ -1,14 +1,14 @@
 -- Names that come again.
-use Rattle.std.proofs.Common.{◌≡◌, ℕ, zero, suc, ◌+◌, ◌<◌, ◌≤◌, true, false, eqb, inl, inr, subst, Some, None, Option, MatchOption, List, [], ◌∷◌, ◌++◌, map, length, get_or, take, drop, sym, refl, ap, ◌∙◌, arith, below_more, Bor}
+use Rattle.std.proofs.Common.{◌≡◌, ℕ, zero, suc, ◌+◌, ◌<◌, ◌≤◌, true, false, eqb, ◌⊎◌, inl, inr, subst, Some, None, Option, MatchOption, List, [], ◌∷◌, ◌++◌, map, length, get_or, take, drop, sym, refl, ap, ◌∙◌, arith, below_more, Bor}
 use Rattle.std.proofs.lemmas.List.{get_or-map, get_or-take, get_or-drop, length-map, length-take-le, length-drop, map_more, map-append}
 use Rattle.std.proofs.lemmas.Slice.Eq.{slice_eq-Decides}
-use Rattle.std.proofs.lemmas.Bool.{both_ways, and_parts, not-true}
+use Rattle.std.proofs.lemmas.Bool.{both_ways, cases_Bool}
 use Rattle.std.proofs.lemmas.Bool.Decides.{Decides-eqb}
 use lib.Pointwise.{pointwise}
 use Rattle.fault.specs.declared.Fault.{Fault}
 use Rattle.fault.specs.Refusals.{spot}
 use Rattle.pieces.specs.Pieces.{pieces, place, piece}
-use Rattle.pieces.proofs.Splits.{lacks, Split, split}
+use Rattle.std.specs.List.{onto_first}
 use Rattle.sheet.specs.Grid.{words_in, line_at, fact_name}
 use Rattle.sheet.specs.Reading.{Apart, Repeated, AgainIn, fact_again, action_again}
 use Rattle.sheet.specs.Repeats.{name_of_piece, FirstRepeat}
@@ -104,32 +104,32 @@ module _ (sep : ℕ) (text : List ℕ) (past count : ℕ) (names : List (Bor (Li
         (map-append (λ w. w.now) names (w ∷ [])
         ∙ rw (held, here) (sym (map_more first_word later n [] enough ∙ ap (λ (p : List ℕ). map first_word (take n later) ++ p ∷ []) (named n))))
 
--- a list that lacks the separator is one piece
-one_piece : (sep : ℕ) (p : List ℕ) → lacks sep p ≡ true → pieces sep p ≡ p ∷ []
-one_piece sep [] l = refl
-one_piece sep (b ∷ p) l =
-    let h = and_parts _ (lacks sep p) l in
-    let n : eqb b sep ≡ false = not-true (eqb b sep) h.0 in
-    let r = one_piece sep p h.1 in
-    rw (n, r) refl
+-- each of these is one piece
+abbrev AreWhole : ℕ → List (List ℕ) → Type 0
+AreWhole sep [] = Unit {0}
+AreWhole sep (p ∷ ps) = (pieces sep p ≡ p ∷ []) × AreWhole sep ps
 
--- so the first piece of a piece is the whole piece
-first_of_piece : (sep : ℕ) (text : List ℕ) (k : ℕ) → piece (pieces sep (piece (pieces sep text) k)) 0 ≡ piece (pieces sep text) k
-first_of_piece sep text zero = go (split sep text)
+are_whole : (sep : ℕ) (text : List ℕ) → AreWhole sep (pieces sep text)
+are_whole sep [] = (refl, tt)
+are_whole sep (b ∷ bs) = go (cases_Bool (eqb b sep)) (are_whole sep bs)
   where
-    go : Split sep text → piece (pieces sep (piece (pieces sep text) 0)) 0 ≡ piece (pieces sep text) 0
-    go (inl (p, l, t, q)) = rw q (ap (λ (ps : List (List ℕ)). piece ps 0) (one_piece sep p l))
-    go (inr (p, bs, l, t, q)) = rw q (ap (λ (ps : List (List ℕ)). piece ps 0) (one_piece sep p l))
-first_of_piece sep text (suc k) = go (split sep text) (λ bs. first_of_piece sep bs k)
-  where
-    go : Split sep text → ((bs : List ℕ) → piece (pieces sep (piece (pieces sep bs) k)) 0 ≡ piece (pieces sep bs) k)
-        → piece (pieces sep (piece (pieces sep text) (suc k))) 0 ≡ piece (pieces sep text) (suc k)
-    go (inl (p, l, t, q)) f = rw q refl
-    go (inr (p, bs, l, t, q)) f = rw q (f bs)
+    onto : (ps : List (List ℕ)) → eqb b sep ≡ false → AreWhole sep ps → AreWhole sep (onto_first b ps)
+    onto [] n o = (rw n refl, tt)
+    onto (p ∷ ps) n (e, o) = (rw (n, e) refl, o)
+
+    go : (eqb b sep ≡ true) ⊎ (eqb b sep ≡ false) → AreWhole sep (pieces sep bs) → AreWhole sep (pieces sep (b ∷ bs))
+    go (inl y) o = rw y (refl, o)
+    go (inr n) o = rw n (onto (pieces sep bs) n o)
+
+-- so its first piece is the whole
+first_of : (sep : ℕ) (ps : List (List ℕ)) (k : ℕ) → AreWhole sep ps → piece (pieces sep (piece ps k)) 0 ≡ piece ps k
+first_of sep [] k o = refl
+first_of sep (p ∷ ps) zero (e, o) = ap (λ (z : List (List ℕ)). piece z 0) e
+first_of sep (p ∷ ps) (suc k) (e, o) = first_of sep ps k o
 
 -- the words of the first line past its first word are the facts' names
 fact_names : (text : List ℕ) → name_of_piece 32 (line_at text 0) 1 ≡ fact_name text
-fact_names text = λ t i. first_of_piece 32 (line_at text 0) (i + 1) t
+fact_names text = λ t i. first_of 32 (words_in (line_at text 0)) (i + 1) (are_whole 32 (line_at text 0)) t
 
 module _ (text : List ℕ) (facts actions : ℕ) (f : Fault) where
   -- what is found among the words of the first line
