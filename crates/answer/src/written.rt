@@ -1,6 +1,7 @@
 // The answer of planning on a sheet, as text.
 ghost use Rattle.std.specs.Prelude.{◌≡◌, ◌<◌, ◌++◌, IfOk, string_bytes, OnOk};
 ghost use Rattle.sheet.specs.Grid.{action_count};
+ghost use Rattle.sheet.specs.Sheets.{text_in};
 ghost use Rattle.answer.specs.Reports.{head_text, name_line, names_text, InRange, shown_plan, answer_text, Nameable, Reported};
 
 use crate::plan_text;
@@ -27,7 +28,7 @@ fn head_text(heap: Global, answer: Result<Outcome, Fault>) -> Result<String, All
 
 // Puts the name of an action behind what is written, with a line end.
 fn push_name(out: &mut Vec<u8>, sheet: &Sheet<'_>, k: u16) -> Result<(), AllocError>
-    ensures { OnOk result (k < action_count sheet.now → out.new.items ≡ out.old.items ++ name_line sheet.now k) }
+    ensures { OnOk result (k < action_count (text_in sheet.now) → out.new.items ≡ out.old.items ++ name_line (text_in sheet.now) k) }
 {
     if let Some(name) = sheet.action_name(usize::from(k)) {
         out.extend_from_slice(name.bytes)?;
@@ -38,7 +39,7 @@ fn push_name(out: &mut Vec<u8>, sheet: &Sheet<'_>, k: u16) -> Result<(), AllocEr
 
 // Puts the names of a plan's actions behind what is written, one to a line.
 fn push_names(out: &mut Vec<u8>, sheet: &Sheet<'_>, plan: &[u16]) -> Result<(), AllocError>
-    ensures { OnOk result (InRange sheet.now plan.now → out.new.items ≡ out.old.items ++ names_text sheet.now plan.now) }
+    ensures { OnOk result (InRange (text_in sheet.now) plan.now → out.new.items ≡ out.old.items ++ names_text (text_in sheet.now) plan.now) }
 {
     for k in plan {
         push_name(out, sheet, *k)?;

@@ -7,9 +7,13 @@ use Rattle.strips.specs.Views.{task_in}
 use Rattle.sheet.specs.declared.reader.Name.{Name}
 use Rattle.sheet.specs.declared.reader.Sheet.{Sheet}
 
+-- the text that a reader is over
+abbrev pub text_in : Sheet → List ℕ
+text_in s = s.grid.text.now
+
 -- the reader is over this text, which is accepted
 pub record OfText (text : List ℕ) (s : Sheet) : Type 0 where
-  pub same : s ≡ text
+  pub same : text_in s ≡ text
   pub accepted : Accepted text
 
 -- a reader over the text where it is accepted, and else the refusal

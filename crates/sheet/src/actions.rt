@@ -6,7 +6,7 @@ use std::marker::Model;
 use strips::Action;
 
 // What is left of a sheet's actions: a clause sees them as a list.
-#[derive(Drop)]
+#[derive(Clone, Drop)]
 pub struct Actions<'a> {
     pub(crate) lines: Skip<Pieces<'a>>,
     pub(crate) left: usize,

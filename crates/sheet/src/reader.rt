@@ -1,8 +1,7 @@
 // The sheet reader: a task's parts, read from the lent text.
 ghost use Rattle.std.specs.Prelude.{◌≡◌, ◌+◌};
 ghost use Rattle.sheet.specs.Grid.{fact_count, fact_name, action_count, action_name, word_start, line_start};
-ghost use Rattle.sheet.specs.Reading.{task_of};
-ghost use Rattle.sheet.specs.Sheets.{SheetRead, NameOf};
+ghost use Rattle.sheet.specs.Reading.{Accepted, task_of};
 
 use crate::actions::Actions;
 use crate::grid::{Grid, HEAD_LINES};
@@ -10,23 +9,12 @@ use crate::sets::ones_in;
 use fault::Fault;
 use lines::check_lines;
 use pieces::{Pieces, piece_at};
-use std::marker::Model;
 
-// A sheet's text that was accepted. A clause sees the text.
-#[derive(Drop)]
+// A sheet's text that was accepted.
+#[derive(Clone, Copy)]
 pub struct Sheet<'a> {
     pub(crate) grid: Grid<'a>,
-}
-
-impl<'a> Model for Sheet<'a> {
-    ghost use Rattle.std.specs.Prelude.{ℕ, List};
-    ghost use Rattle.sheet.specs.Reading.{Accepted};
-
-    ghost Value = { List ℕ };
-
-    ghost view = { λ s. s.grid.text.now };
-
-    ghost invariant = { λ s. Accepted s.grid.text.now };
+    ghost accepted: { ∥ Accepted grid.text.now ∥₁ },
 }
 
 // A name: a part of the text, and the offset where it begins there.
@@ -37,6 +25,8 @@ pub struct Name<'a> {
 }
 
 impl<'a> Sheet<'a> {
+    ghost use Rattle.sheet.specs.Sheets.{SheetRead, NameOf, text_in};
+
     // Reads a text; refuses one that is no sheet, with the place.
     pub fn read(text: &'a [u8]) -> Result<Sheet<'a>, Fault>
         ensures { SheetRead text.now result }
@@ -51,35 +41,35 @@ impl<'a> Sheet<'a> {
 
     // The number of facts.
     pub fn fact_count(&self) -> usize
-        ensures { result ≡ fact_count self.now }
+        ensures { result ≡ fact_count (text_in self.now) }
     {
         self.grid.facts
     }
 
     // The number of actions.
     pub fn action_count(&self) -> usize
-        ensures { result ≡ action_count self.now }
+        ensures { result ≡ action_count (text_in self.now) }
     {
         self.grid.actions
     }
 
     // The facts that hold now.
     pub fn state(&self) -> u64
-        ensures { result ≡ (task_of self.now).state }
+        ensures { result ≡ (task_of (text_in self.now)).state }
     {
         ones_in(piece_at(self.grid.text, b'\n', 1))
     }
 
     // The facts that are to hold.
     pub fn goal(&self) -> u64
-        ensures { result ≡ (task_of self.now).goal }
+        ensures { result ≡ (task_of (text_in self.now)).goal }
     {
         ones_in(piece_at(self.grid.text, b'\n', 2))
     }
 
     // The actions, one at a time.
     pub fn actions(&self) -> Actions<'a>
-        ensures { result ≡ (task_of self.now).actions }
+        ensures { result ≡ (task_of (text_in self.now)).actions }
     {
         let grid = &self.grid;
         Actions {
@@ -90,7 +80,7 @@ impl<'a> Sheet<'a> {
 
     // The name of a fact.
     pub fn fact_name(&self, i: usize) -> Option<Name<'a>>
-        ensures { NameOf (fact_count self.now) (fact_name self.now i) (word_start self.now 0 (i + 1)) i result }
+        ensures { NameOf (fact_count (text_in self.now)) (fact_name (text_in self.now) i) (word_start (text_in self.now) 0 (i + 1)) i result }
     {
         if i >= self.fact_count() {
             return None;
@@ -104,7 +94,7 @@ impl<'a> Sheet<'a> {
 
     // The name of an action.
     pub fn action_name(&self, k: usize) -> Option<Name<'a>>
-        ensures { NameOf (action_count self.now) (action_name self.now k) (line_start self.now (k + 3)) k result }
+        ensures { NameOf (action_count (text_in self.now)) (action_name (text_in self.now) k) (line_start (text_in self.now) (k + 3)) k result }
     {
         if k >= self.action_count() {
             return None;

@@ -2,7 +2,7 @@
 ghost use Rattle.std.specs.Prelude.{◌≡◌};
 ghost use Rattle.strips.specs.Views.{task_in};
 ghost use Rattle.sheet.specs.Reading.{task_of};
-ghost use Rattle.sheet.specs.Sheets.{TaskRead};
+ghost use Rattle.sheet.specs.Sheets.{TaskRead, text_in};
 
 use crate::reader::Sheet;
 use arrayvec::ArrayVec;
@@ -12,7 +12,7 @@ use strips::{Action, MAX_ACTIONS, Task};
 impl Sheet<'_> {
     // The task of the sheet.
     fn task(&self) -> Task
-        ensures { task_in result ≡ task_of self.now }
+        ensures { task_in result ≡ task_of (text_in self.now) }
     {
         let facts = u8::try_from(self.grid.facts).unwrap();
         let mut actions = ArrayVec::<Action, MAX_ACTIONS>::new();
