@@ -31,7 +31,7 @@ has_later f w i =
     half false = omega arith
 
 -- fact i is in the set of the flags where flag i is true
-has_set : (flags : List Bool) (i : ℕ) → has (set_of flags) i ≡ get_or flags i false
+pub has_set : (flags : List Bool) (i : ℕ) → has (set_of flags) i ≡ get_or flags i false
 has_set [] i = has_none i
 has_set (f ∷ fs) zero = has_first f (set_of fs)
 has_set (f ∷ fs) (suc i) = has_later f (set_of fs) i ∙ has_set fs i

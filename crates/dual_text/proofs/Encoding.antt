@@ -1,12 +1,11 @@
 -- The words for the facts of a set give back the set, and are words that their columns allow.
-use Rattle.std.proofs.Common.{◌≡◌, ℕ, zero, suc, ◌+◌, ◌*◌, ◌/◌, ◌%◌, ◌^◌, ◌<◌, Bool, true, false, cond, ◌||◌, eqb, ◌⊎◌, List, [], ◌∷◌, map, codes, sym, refl, ap, ◌∙◌, ap₂, inl, inr, mod-lt, zero-lt-suc, div-add-mod', div-one, add-one, arith, shr-shr, shr_lt}
-use lib.Arith.{lt-one}
+use Rattle.std.proofs.Common.{◌≡◌, ℕ, ◌^◌, ◌<◌, ◌≤◌, Bool, true, false, ◌||◌, ◌⊎◌, List, [], ◌∷◌, map, get_or, codes, sym, refl, ap, ◌∙◌, ap₂, inl, inr, arith}
 use Rattle.std.specs.List.{range_with_len}
 use Rattle.std.specs.Str.{bytes_eq}
 use Rattle.std.proofs.lemmas.Slice.Eq.{bytes_eq-Decides}
 use Rattle.std.proofs.lemmas.List.Elements.{All-weaker}
 use Rattle.std.proofs.lemmas.List.Sums.{AllPass-from_list_all, list_all-from_AllPass}
-use Rattle.std.proofs.lemmas.Bool.{and_parts, or_cases}
+use Rattle.std.proofs.lemmas.Bool.{and_parts, cases_lt, or_cases}
 use Rattle.std.proofs.lemmas.Bool.Decides.{nat_tests}
 use Rattle.lines.specs.Grammar.{word_byte, word_bytes, is_word, are_words}
 use Rattle.words.specs.declared.kind.Kind.{Kind}
@@ -15,33 +14,22 @@ use Rattle.words.specs.Words.{letter, digit, letters_digits, is_name, is_mark, a
 use Rattle.words.specs.Marks.{mark_word}
 use Rattle.strips.specs.Sets.{has}
 use Rattle.sheet.specs.Reading.{set_of}
+use Rattle.dual_text.proofs.Decoding.{has_set}
+use Rattle.strips.proofs.Words.{equal, has_past}
+use Rattle.std.proofs.Math.ListN.{get_or-eq_default}
+use Rattle.std.proofs.lemmas.List.FromFn.{get_or-map-range_with_len, length-map-range_with_len}
 use Rattle.dual_text.specs.Written.{now_word, wish_word, for_facts}
-
--- fact i of half a number is fact i + 1 of the number
-has_half : (w i : ℕ) → has (w / 2) i ≡ has w (i + 1)
-has_half w i = ap (λ (x : ℕ). eqb (x % 2) 1) (shr-shr w 1 i ∙ ap (λ (k : ℕ). w / 2 ^ k) (omega arith))
-
--- the facts from a + 1 on are those of the half from a on
-half_facts : (w a n : ℕ) → map (has w) (range_with_len (a + 1) n) ≡ map (has (w / 2)) (range_with_len a n)
-half_facts w a zero = refl
-half_facts w a (suc n) = ap₂ (λ (x : Bool) (xs : List Bool). x ∷ xs) (sym (has_half w a)) (half_facts w (a + 1) n)
-
--- the lowest digit, from its test
-low_digit : (w : ℕ) → cond (has w 0) 1 0 ≡ w % 2
-low_digit w = rw div-one (of_digit (w % 2) (mod-lt w (zero-lt-suc 1)))
-  where
-    of_digit : (x : ℕ) → x < 2 → cond (eqb x 1) 1 0 ≡ x
-    of_digit x h = grind (arith, nat_tests)
 
 -- a set of n facts is the set of those facts
 set_of_facts : (w n : ℕ) → w < 2 ^ n → set_of (map (has w) (range_with_len 0 n)) ≡ w
-set_of_facts w zero h = sym (lt-one h)
-set_of_facts w (suc n) h =
-    let r = set_of_facts (w / 2) n (shr_lt n 1 (rw add-one h)) in
-    let f : map (has w) (range_with_len (0 + 1) n) ≡ map (has (w / 2)) (range_with_len 0 n) = half_facts w 0 n in
-    let g : set_of (map (has w) (range_with_len (0 + 1) n)) ≡ w / 2 = ap set_of f ∙ r in
-    let d : w / 2 * 2 + w % 2 ≡ w = div-add-mod' w 2 in
-    omega (arith, low_digit w)
+set_of_facts w n h = equal _ w (λ i. has_set flags i ∙ at i (cases_lt i n))
+  where
+    flags : List Bool
+    flags = map (has w) (range_with_len 0 n)
+
+    at : (i : ℕ) → (i < n) ⊎ (n ≤ i) → get_or flags i false ≡ has w i
+    at i (inl l) = get_or-map-range_with_len (has w) 0 n i i false l (omega arith)
+    at i (inr l) = get_or-eq_default flags false (omega (arith, length-map-range_with_len (has w) 0 n)) ∙ sym (has_past n w i h l)
 
 -- a set read off the words of its facts, where the letter tells the facts that are in it
 pub set_of_words : (x w n : ℕ) (word : ℕ → List ℕ) → ((i : ℕ) → holds x (word i) ≡ has w i) → w < 2 ^ n
