@@ -54,9 +54,9 @@ def sources(commit):
 
 
 def proofs(commit):
-    """The lines of proofs of each crate, and the answers that stand three times or more."""
+    """The lines of proofs of each crate, its laws among them, and the answers that stand three times or more."""
     lines, answers = defaultdict(int), defaultdict(list)
-    for name, text in files(commit, r"crates/\w+/proofs/.*\.antt"):
+    for name, text in files(commit, r"crates/\w+/(?:proofs/.*|specs/Laws)\.antt"):
         crate = name.split("/")[1]
         lines[crate] += text.count("\n")
         for goal, answer in re.findall(r"^pub [\w'-]+ : goal\.([\w'-]+)\n[\w'-]+ [^=]*= ?(.*(?:\n .*)*)", text, re.M):
