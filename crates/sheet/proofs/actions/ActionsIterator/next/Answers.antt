@@ -1,4 +1,4 @@
-use Rattle.std.proofs.Common.{◌<◌, map, ap, ◌∙◌, subst, arith}
+use Rattle.std.proofs.Common.{◌<◌, map, ap, subst, arith}
 use Rattle.std.specs.List.{All}
 use Rattle.sheet.specs.Reading.{action_in}
 use Rattle.sheet.specs.Shape.{GoodMarks}
