@@ -72,11 +72,12 @@ impl<'a> Sheet<'a> {
     pub fn actions(&self) -> Actions<'a>
         ensures { actions_left result ≡ (task_of (text_in self.now)).actions }
     {
-        let mut lines = Pieces::of(self.grid.text, b'\n');
+        let grid = &self.grid;
+        let mut lines = Pieces::of(grid.text, b'\n');
         lines.nth(HEAD_LINES - 1);
         Actions {
             lines,
-            left: self.action_count(),
+            left: grid.actions,
         }
     }
 

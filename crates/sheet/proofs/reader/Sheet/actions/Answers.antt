@@ -11,11 +11,11 @@ pub invariant_of-result : goal.invariant_of-result
 invariant_of-result c =
     let text = c.args.self.now.grid.text.now in
     let left = behind _ _ c.nth.result 2 c.nth.ensures.ran ∙ ap (drop 3) c.of-lines.ensures.all in
-    let first = first_left _ text _ left c.action_count.ensures in
+    let first = first_left _ text _ left c.args.self.now.grid.actions_are in
     record { good = ∥∥₁_elim c.args.self.now.accepted (hlevel props) (λ a. subst (All GoodMarks) (sym first) (all_good text a)) }
 
 pub returns : goal.returns
 returns c =
     let text = c.args.self.now.grid.text.now in
     let left = behind _ _ c.nth.result 2 c.nth.ensures.ran ∙ ap (drop 3) c.of-lines.ensures.all in
-    ap (map action_in) (first_left _ text _ left c.action_count.ensures)
+    ap (map action_in) (first_left _ text _ left c.args.self.now.grid.actions_are)
