@@ -1,17 +1,20 @@
 -- Names that come again.
-use Rattle.std.proofs.Common.{◌≡◌, ℕ, zero, suc, ◌+◌, ◌<◌, ◌≤◌, true, false, eqb, ◌⊎◌, inl, inr, subst, Some, None, Option, MatchOption, List, [], ◌∷◌, ◌++◌, map, length, get_or, take, drop, sym, refl, ap, ◌∙◌, arith, below_more, Bor}
+use Rattle.std.proofs.Common.{◌≡◌, ℕ, zero, suc, ◌+◌, ◌<◌, ◌≤◌, true, false, eqb, ◌⊎◌, inl, inr, subst, Ok, Err, Result, List, [], ◌∷◌, ◌++◌, map, length, get_or, take, drop, sym, refl, ap, ◌∙◌, arith, below_more, Bor}
 use Rattle.std.proofs.lemmas.List.{get_or-map, get_or-take, get_or-drop, length-map, length-take-le, length-drop, map_more, map-append}
 use Rattle.std.proofs.lemmas.Slice.Eq.{slice_eq-Decides}
 use Rattle.std.proofs.lemmas.Bool.{both_ways, cases_Bool}
 use Rattle.std.proofs.lemmas.Bool.Decides.{Decides-eqb}
 use lib.Pointwise.{pointwise}
 use Rattle.fault.specs.declared.Fault.{Fault}
-use Rattle.fault.specs.Refusals.{spot}
+use Rattle.fault.specs.declared.Fault.TheVariants.{RepeatedName}
+use Rattle.fault.specs.declared.Layer.TheVariants.{Sheet}
+use Rattle.fault.specs.declared.Place.TheVariants.{At}
+use Rattle.fault.specs.Refusals.{refusal, refused, spot}
 use Rattle.pieces.specs.Pieces.{pieces, place, piece}
 use Rattle.std.specs.List.{onto_first}
-use Rattle.sheet.specs.Grid.{words_in, line_at, fact_name}
+use Rattle.sheet.specs.Grid.{words_in, line_at, fact_name, fact_count, action_count}
 use Rattle.sheet.specs.Reading.{Apart, Repeated, AgainIn, fact_again, action_again}
-use Rattle.sheet.specs.Repeats.{name_of_piece, FirstRepeat}
+use Rattle.sheet.specs.Repeats.{name_of_piece, FirstRepeat, ToldApart}
 use Rattle.pieces.proofs.Walk.{Here}
 use Rattle.sheet.proofs.Turns.{passed, passed_few, turn_at}
 
@@ -72,7 +75,7 @@ module _ (sep : ℕ) (text : List ℕ) (past count : ℕ) (names : List (Bor (Li
 
     -- one of them is its name
     pub found : Apart (name_of_piece sep text past) n → (k : ℕ) × (k < length names) × ((d : Bor (List ℕ)) → pointwise eqb (get_or names k d).now w.now ≡ true)
-        → FirstRepeat sep text past count (Some x.0)
+        → FirstRepeat sep text past count (Err (RepeatedName x.0))
     unfolding name
     found apart (k, l, e) =
         let before : k < n = omega (arith, long) in (
@@ -84,7 +87,7 @@ module _ (sep : ℕ) (text : List ℕ) (past count : ℕ) (names : List (Bor (Li
             again = sym (held_at k before) ∙ (slice_eq-Decides Decides-eqb _ _ _ refl).0 (e nowhere) ∙ here;
             first = apart;
           },
-          stands.begins,
+          ap RepeatedName stands.begins,
         )
 
     -- or none is
@@ -132,16 +135,30 @@ fact_names : (text : List ℕ) → name_of_piece 32 (line_at text 0) 1 ≡ fact_
 fact_names text = λ t i. first_of 32 (words_in (line_at text 0)) (i + 1) (are_whole 32 (line_at text 0)) t
 
 module _ (text : List ℕ) (facts actions : ℕ) (f : Fault) where
+  -- a repeated name is refused by 6
+  by_six : (at : ℕ) → f ≡ RepeatedName at → refusal f ≡ refused 6 Sheet (At (spot f))
+  by_six at b = rw b refl
+
   -- what is found among the words of the first line
-  pub facts_told : (line : List ℕ) (r : Option ℕ) → line ≡ line_at text 0 → FirstRepeat 32 line 1 facts r
-      → MatchOption r (Apart (fact_name text) facts) (λ at. spot f ≡ at → AgainIn text facts actions f)
-  facts_told line None e a = subst (λ (name : ℕ → List ℕ). Apart name facts) (ap (λ (l : List ℕ). name_of_piece 32 l 1) e ∙ fact_names text) a
-  facts_told line (Some at) e (i, r, b) = λ h. fact_again (record {
-    index = i;
-    repeated = subst (λ (name : ℕ → List ℕ). Repeated name facts i) (ap (λ (l : List ℕ). name_of_piece 32 l 1) e ∙ fact_names text) r;
-    here = h ∙ b ∙ ap (λ (l : List ℕ). place (words_in l) (i + 1)) e ∙ omega arith;
-  })
+  pub facts_told : (line : List ℕ) → line ≡ line_at text 0 → FirstRepeat 32 line 1 facts (Err f) → (refusal f ≡ refused 6 Sheet (At (spot f))) × AgainIn text facts actions f
+  facts_told line e (i, r, b) = (
+    by_six _ b,
+    fact_again (record {
+      index = i;
+      repeated = subst (λ (name : ℕ → List ℕ). Repeated name facts i) (ap (λ (l : List ℕ). name_of_piece 32 l 1) e ∙ fact_names text) r;
+      here = ap spot b ∙ ap (λ (l : List ℕ). place (words_in l) (i + 1)) e ∙ omega arith;
+    }),
+  )
 
   -- and among the lines of the actions
-  pub actions_told : (at : ℕ) → Apart (fact_name text) facts → FirstRepeat 10 text 3 actions (Some at) → spot f ≡ at → AgainIn text facts actions f
-  actions_told at apart (i, r, b) h = action_again apart (record { index = i; repeated = r; here = h ∙ b })
+  pub actions_told : Apart (fact_name text) facts → FirstRepeat 10 text 3 actions (Err f) → (refusal f ≡ refused 6 Sheet (At (spot f))) × AgainIn text facts actions f
+  actions_told apart (i, r, b) = (by_six _ b, action_again apart (record { index = i; repeated = r; here = ap spot b }))
+
+-- facts whose names are different
+pub facts_apart : (text line : List ℕ) (facts : ℕ) → line ≡ line_at text 0 → FirstRepeat 32 line 1 facts (Ok tt) → Apart (fact_name text) facts
+facts_apart text line facts e a = subst (λ (name : ℕ → List ℕ). Apart name facts) (ap (λ (l : List ℕ). name_of_piece 32 l 1) e ∙ fact_names text) a
+
+-- what is told of the actions' names, where the facts' names are different
+pub told : (text : List ℕ) → Apart (fact_name text) (fact_count text) → (r : Result (Unit {0}) Fault) → FirstRepeat 10 text 3 (action_count text) r → ToldApart text r
+told text apart (Ok _) a = (apart, a)
+told text apart (Err f) a = actions_told text (fact_count text) (action_count text) f apart a

@@ -1,6 +1,7 @@
 -- What the parts of the search for repeated names answer; only functions of this crate cite these. Assumes nothing.
-use Rattle.std.specs.Prelude.{◌≡◌, ℕ, ◌+◌, List, Some, None, Ok, Err, Option, Result}
+use Rattle.std.specs.Prelude.{◌≡◌, ℕ, ◌+◌, List, Ok, Err, Result}
 use Rattle.fault.specs.declared.Fault.{Fault}
+use Rattle.fault.specs.declared.Fault.TheVariants.{RepeatedName}
 use Rattle.fault.specs.declared.Layer.TheVariants.{Sheet}
 use Rattle.fault.specs.declared.Place.TheVariants.{At}
 use Rattle.fault.specs.Refusals.{refusal, refused, spot}
@@ -12,10 +13,10 @@ use Rattle.sheet.specs.Reading.{Apart, Repeated, AgainIn}
 abbrev pub name_of_piece : (sep : ℕ) → (text : List ℕ) → (past i : ℕ) → List ℕ
 name_of_piece sep text past i = piece (words_in (piece (pieces sep text) (i + past))) 0
 
--- where the first of some pieces begins whose name an earlier one has, if there is one
-abbrev pub FirstRepeat : (sep : ℕ) → (text : List ℕ) → (past count : ℕ) → Option ℕ → Type 0
-FirstRepeat sep text past count (Some at) = (i : ℕ) × Repeated (name_of_piece sep text past) count i × (at ≡ place (pieces sep text) (i + past))
-FirstRepeat sep text past count None = Apart (name_of_piece sep text past) count
+-- the names of some pieces are different; or the first that an earlier one has is refused, at the place where its piece begins
+abbrev pub FirstRepeat : (sep : ℕ) → (text : List ℕ) → (past count : ℕ) → Result (Unit {0}) Fault → Type 0
+FirstRepeat sep text past count (Ok _) = Apart (name_of_piece sep text past) count
+FirstRepeat sep text past count (Err f) = (i : ℕ) × Repeated (name_of_piece sep text past) count i × (f ≡ RepeatedName (place (pieces sep text) (i + past)))
 
 -- all names are different, or 6
 abbrev pub ToldApart : List ℕ → Result (Unit {0}) Fault → Type 0

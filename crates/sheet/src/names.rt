@@ -9,9 +9,9 @@ use fault::Fault;
 use pieces::{Pieces, piece_at};
 use strips::MAX_ACTIONS;
 
-// Of so many pieces of a text past the first ones, where the first begins whose name an earlier one has, if there is one. The name of a
-// piece is its first word.
-fn first_repeat(text: &[u8], sep: u8, past: usize, count: usize) -> Option<usize>
+// Refuses the first of so many pieces of a text, past the first ones, whose name an earlier one has. The name of a piece is its first
+// word.
+fn check_apart(text: &[u8], sep: u8, past: usize, count: usize) -> Result<(), Fault>
     requires few { count ≤ 256 }
     requires inside { count + past ≤ length (pieces sep text.now) }
     ensures { FirstRepeat sep text.now past count result }
@@ -20,11 +20,11 @@ fn first_repeat(text: &[u8], sep: u8, past: usize, count: usize) -> Option<usize
     for piece in Pieces::of(text, sep).skip(past).take(count) {
         let name = piece_at(piece.bytes, b' ', 0);
         if names.contains(&name) {
-            return Some(piece.start);
+            return Err(Fault::RepeatedName(piece.start));
         }
         names.push(name);
     }
-    None
+    Ok(())
 }
 
 impl Grid<'_> {
@@ -32,13 +32,7 @@ impl Grid<'_> {
     pub fn check_names(&self) -> Result<(), Fault>
         ensures { ToldApart self.now.text.now result }
     {
-        let first = piece_at(self.text, b'\n', 0);
-        if let Some(at) = first_repeat(first, b' ', 1, self.facts) {
-            return Err(Fault::RepeatedName(at));
-        }
-        match first_repeat(self.text, b'\n', HEAD_LINES, self.actions) {
-            Some(at) => Err(Fault::RepeatedName(at)),
-            None => Ok(()),
-        }
+        check_apart(piece_at(self.text, b'\n', 0), b' ', 1, self.facts)?;
+        check_apart(self.text, b'\n', HEAD_LINES, self.actions)
     }
 }

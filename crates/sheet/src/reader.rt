@@ -25,6 +25,7 @@ pub struct Name<'a> {
 }
 
 impl<'a> Sheet<'a> {
+    ghost use Rattle.sheet.specs.Actions.{actions_left};
     ghost use Rattle.sheet.specs.Sheets.{SheetRead, NameOf, text_in};
 
     // Reads a text; refuses one that is no sheet, with the place.
@@ -69,11 +70,13 @@ impl<'a> Sheet<'a> {
 
     // The actions, one at a time.
     pub fn actions(&self) -> Actions<'a>
-        ensures { result ≡ (task_of (text_in self.now)).actions }
+        ensures { actions_left result ≡ (task_of (text_in self.now)).actions }
     {
         let grid = &self.grid;
+        let mut lines = Pieces::of(grid.text, b'\n');
+        lines.nth(HEAD_LINES - 1);
         Actions {
-            lines: Pieces::of(grid.text, b'\n').skip(HEAD_LINES),
+            lines,
             left: grid.actions,
         }
     }

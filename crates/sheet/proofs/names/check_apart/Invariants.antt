@@ -2,7 +2,7 @@ use Rattle.std.proofs.Common.{length}
 use Rattle.sheet.specs.Reading.{Apart}
 use Rattle.sheet.specs.Repeats.{name_of_piece}
 use Rattle.sheet.proofs.Repeats.{Held}
-use Rattle.sheet.proofs.names.first_repeat.Given as goal
+use Rattle.sheet.proofs.names.check_apart.Given as goal
 
 abbrev pub invariant-loop-piece : goal.invariant-loop-piece
 invariant-loop-piece l = record {

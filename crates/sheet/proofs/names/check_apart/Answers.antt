@@ -4,7 +4,7 @@ use Rattle.std.proofs.lemmas.Iterator.Consumers.{YieldsList-turn}
 use Rattle.pieces.specs.Pieces.{pieces}
 use Rattle.sheet.proofs.Repeats.{room, found, apart_more, held_more}
 use Rattle.sheet.proofs.Turns.{walk}
-use Rattle.sheet.proofs.names.first_repeat.Goals as goal
+use Rattle.sheet.proofs.names.check_apart.Goals as goal
 
 pub push-requires : goal.push-requires
 push-requires c =
