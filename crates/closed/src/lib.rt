@@ -31,10 +31,9 @@ fn keeps<S: Space>(space: &S, rows: &[S::Node], from: S::Node, by: u16) -> bool
     ensures kept { result ≡ true → Keeps (S.Space.meaning space.now) rows.now from by }
     ensures missed { result ≡ false → Misses (S.Space.meaning space.now) rows.now from by }
 {
-    match space.next(from, by) {
-        Some(next) => holds(space, rows, next),
-        None => true,
-    }
+    space
+        .next(from, by)
+        .is_none_or(|next| holds(space, rows, next))
 }
 
 // The first move from a node whose next node is missing.
