@@ -1,5 +1,8 @@
 // Reads a text byte by byte, to see whether it is lines of words.
-ghost use Rattle.std.specs.Prelude.{◌≡◌, MatchBool, MatchOption};
+ghost use Rattle.std.specs.Prelude.{◌≡◌, MatchBool, MatchResult};
+ghost use Rattle.fault.specs.declared.Layer.TheVariants.{Bytes};
+ghost use Rattle.fault.specs.declared.Place.TheVariants.{At};
+ghost use Rattle.fault.specs.Refusals.{refusal, refused, spot};
 ghost use Rattle.lines.specs.Checked.{Checked};
 ghost use Rattle.lines.specs.Coming.{Onward, Stuck};
 ghost use Rattle.lines.specs.Grammar.{Lines, WrongAt, word_byte};
@@ -55,21 +58,22 @@ impl LineReader {
     }
 }
 
-// Nothing where the text is lines; else the place of the first wrong byte, or the length where the text ends too early.
-fn first_wrong(text: &[u8]) -> Option<usize>
-    ensures { MatchOption result (Lines text.now) (λ k. WrongAt text.now k) }
+// Accepts lines; else names the first wrong byte, or the end where the text ends too early.
+fn only_lines(text: &[u8]) -> Result<(), Fault>
+    ensures { MatchResult result (λ _. Lines text.now)
+        (λ f. (refusal f ≡ refused 2 Bytes (At (spot f))) × WrongAt text.now (spot f)) }
 {
     let mut reader = LineReader {
         state: State::LineStart,
     };
     for (i, byte) in text.iter().enumerate() {
         if !reader.feed(*byte) {
-            return Some(i);
+            return Err(Fault::NotLines(i));
         }
     }
     match reader.state {
-        State::LineStart => None,
-        State::WordStart | State::InWord => Some(text.len()),
+        State::LineStart => Ok(()),
+        State::WordStart | State::InWord => Err(Fault::NotLines(text.len())),
     }
 }
 
@@ -81,8 +85,5 @@ pub fn check_lines(text: &[u8]) -> Result<(), Fault>
     if text.is_empty() || text.len() > MAX_LENGTH {
         return Err(Fault::TextLength);
     }
-    match first_wrong(text) {
-        Some(at) => Err(Fault::NotLines(at)),
-        None => Ok(()),
-    }
+    only_lines(text)
 }

@@ -1,9 +1,9 @@
-use Rattle.std.proofs.Common.{arith, rules}
+use Rattle.std.proofs.Common.{refl, arith, rules}
 use Rattle.lines.proofs.Reach.{reached_more, wrong_here, wrong_end, good_end}
-use Rattle.lines.proofs.reader.first_wrong.Goals as goal
+use Rattle.lines.proofs.reader.only_lines.Goals as goal
 
 pub returns-then-not-feed : goal.returns-then-not-feed
-returns-then-not-feed c = wrong_here c.loop-i.reader.state _ _ c.loop-i-test.true c.loop-i.invariant c.if-not-feed.ensures.0
+returns-then-not-feed c = (refl, wrong_here c.loop-i.reader.state _ _ c.loop-i-test.true c.loop-i.invariant c.if-not-feed.ensures.0)
 
 pub loop-i-preserved : goal.loop-i-preserved
 loop-i-preserved c = reached_more c.loop-i.reader.state _ _ c.feed.new.self.state c.loop-i-test.true c.if-not-feed.ensures c.loop-i.invariant
@@ -12,4 +12,4 @@ pub returns-in-LineStart : goal.returns-in-LineStart
 returns-in-LineStart c = good_end c.loop-i.reader.state _ _ c.loop-i-test.false c.loop-i.invariant c.in-LineStart.is
 
 pub returns-in-WordStart : goal.returns-in-WordStart
-returns-in-WordStart c = wrong_end c.loop-i.reader.state _ _ c.loop-i-test.false (omega arith) c.loop-i.invariant (search rules)
+returns-in-WordStart c = (refl, wrong_end c.loop-i.reader.state _ _ c.loop-i-test.false (omega arith) c.loop-i.invariant (search rules))
