@@ -72,7 +72,7 @@ def proofs(commit):
 
 def is_clause(line):
     """Whether a line is a clause, a ghost item, a comment or an import."""
-    return bool(re.match(r"\s*(?://|use |pub use |ghost |(?:requires|ensures)\b|\(|→|#)", line))
+    return bool(re.match(r"\s*(?://|use |pub use |ghost |(?:requires|ensures)\b|\(\w+ self\.|→|#)", line))
 
 
 class Function:
