@@ -1,5 +1,5 @@
 -- What an answer in any direction says of the task.
-use Rattle.std.proofs.Common.{◌≡◌, ℕ, ◌≤◌, true, List, length, take, drop, Ok, Err, Result, sym, ap, ◌∙◌, subst, arith, length-append}
+use Rattle.std.proofs.Common.{◌≡◌, ℕ, ◌≤◌, true, List, length, take, drop, ◌++◌, Ok, Err, Result, sym, ap, ◌∙◌, subst, arith, length-append}
 use Rattle.std.proofs.lemmas.List.{length-take-le, length-drop, take_at, drop_at}
 use Rattle.fault.specs.declared.Fault.{Fault}
 use Rattle.space.proofs.ClosedSets.{closed_hopeless}
@@ -41,16 +41,20 @@ module _ (h : Task) (f : fine h ≡ true) where
 
   -- a plan that the search in a direction found, once it is put into the task's order
   pub plan_answered : (h' : Task) → h ≡ h' → (d : Direction) (k : ℕ) → number d ≡ k → (b b' b'' : Buffers ℕ) (r : Result Outcome Fault) (o : Outcome) (n used : ℕ)
-      → r ≡ Ok o → o ≡ Plan (n, used) → Answered (space_in h (number d)) b b' r → b''.rows ≡ b'.rows → (plan : List ℕ) → b''.plan ≡ plan
-      → take n plan ≡ in_order (number d) (take n b'.plan) → drop n plan ≡ drop n b'.plan → length plan ≡ length b'.plan → AnsweredIn h' k b b'' (Ok o)
-  plan_answered h' s d k t b b' b'' r o n used q p x rows plan e moves past long =
+      → r ≡ Ok o → o ≡ Plan (n, used) → Answered (space_in h (number d)) b b' r → b''.rows ≡ b'.rows → (front plan : List ℕ) → b''.plan ≡ plan
+      → plan ≡ front ++ drop n b'.plan → front ≡ in_order (number d) (take n b'.plan) → AnsweredIn h' k b b'' (Ok o)
+  plan_answered h' s d k t b b' b'' r o n used q p x rows front plan e whole moves =
       let y : Planned (space_in h (number d)) b b' n used = subst (λ (z : Result Outcome Fault). Answered (space_in h (number d)) b b' z) (q ∙ ap Ok p) x in
+      let long : length front ≡ n = ap length moves ∙ order_length (number d) (take n b'.plan) ∙ length-take-le n b'.plan (omega (arith, y.fits, y.plan_past.long)) in
       let shown : Shown h (number d) b b'' n used = record {
         filled = rw rows y.filled;
         nearest = y.nearest;
         fits = y.fits;
-        is_a_plan = rw e (ordered_plan (number d) _ _ moves y.leads);
-        plan_past = rw e (record { rest = past ∙ y.plan_past.rest; long = long ∙ y.plan_past.long });
+        is_a_plan = rw e (rw whole (ordered_plan (number d) _ _ (take_at front _ n long ∙ moves) y.leads));
+        plan_past = rw e (rw whole (record {
+          rest = drop_at front _ n long ∙ y.plan_past.rest;
+          long = length-append front (drop n b'.plan) ∙ omega (arith, long, length-drop n b'.plan, y.fits, y.plan_past.long);
+        }));
       } in
       subst (λ (g : Task). AnsweredIn g k b b'' (Ok o)) s
       (subst (λ (i : ℕ). AnsweredIn h i b b'' (Ok o)) t (subst (λ (z : Outcome). AnsweredIn h (number d) b b'' (Ok z)) (sym p) (number_le d, shown)))

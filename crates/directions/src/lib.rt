@@ -1,7 +1,7 @@
 // Planning and checking in each of the four directions of a task.
 #![tactic(auto)]
 
-ghost use Rattle.std.specs.Prelude.{◌≡◌, ℕ, ◌≤◌, length, take, drop};
+ghost use Rattle.std.specs.Prelude.{◌≡◌, ℕ};
 ghost use Rattle.bfs.specs.Answers.{buffers};
 ghost use Rattle.directions.specs.Agreement.{AcceptedNone, AlwaysAsSearched, DirectionsAgree, PlansTold};
 ghost use Rattle.directions.specs.Directions.{number, Numbered};
@@ -111,15 +111,13 @@ fn ask_in<Q: Question>(direction: Direction, task: TaskView<'_>, question: &mut 
     }
 }
 
-// Brings the first moves, as the search in a direction found them, into the task's order.
-fn put_in_order(direction: Direction, plan: &mut [u16], n: usize)
-    requires { n ≤ length plan.old }
-    ensures moves { take n plan.new ≡ in_order (number direction) (take n plan.old) }
-    ensures past { drop n plan.new ≡ drop n plan.old }
+// Brings the moves of a plan, as the search in a direction found them, into the task's order.
+fn put_in_order(direction: Direction, plan: &mut [u16])
+    ensures { plan.new ≡ in_order (number direction) plan.old }
 {
     match direction {
         Direction::Forward | Direction::DualBackward => {}
-        Direction::Backward | Direction::DualForward => plan[..n].reverse(),
+        Direction::Backward | Direction::DualForward => plan.reverse(),
     }
 }
 
@@ -138,10 +136,14 @@ pub fn plan_in(
     ensures { AnsweredIn (task_in task.now) direction (buffers nodes.old links.old plan.old) (buffers nodes.new links.new plan.new) result }
 {
     let direction = Direction::try_from(direction)?;
-    let mut search = Search { nodes, links, plan };
+    let mut search = Search {
+        nodes,
+        links,
+        plan: &mut *plan,
+    };
     let outcome = ask_in(direction, task.view(), &mut search)?;
     if let Outcome::Plan((length, _)) = outcome {
-        put_in_order(direction, search.plan, length);
+        put_in_order(direction, &mut plan[..length]);
     }
     Ok(outcome)
 }
