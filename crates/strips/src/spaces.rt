@@ -42,7 +42,7 @@ impl Space for Forward<'_> {
     }
 
     fn count(&self) -> u16 {
-        self.task.actions.len() as u16
+        self.task.count()
     }
 
     fn is_target(&self, node: u64) -> bool {
@@ -74,7 +74,7 @@ impl Space for Backward<'_> {
     }
 
     fn count(&self) -> u16 {
-        self.task.actions.len() as u16
+        self.task.count()
     }
 
     fn is_target(&self, node: u64) -> bool {

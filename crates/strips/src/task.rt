@@ -1,5 +1,5 @@
 // Tasks, with actions that are lent and with actions of their own.
-ghost use Rattle.std.specs.Prelude.{◌≡◌, true};
+ghost use Rattle.std.specs.Prelude.{◌≡◌, true, length};
 ghost use Rattle.strips.specs.Tasks.{fine, fine_actions};
 
 use crate::MAX_ACTIONS;
@@ -62,6 +62,13 @@ impl<'a> TaskView<'a> {
             state,
             goal,
         })
+    }
+
+    // The count of actions.
+    pub(crate) fn count(&self) -> u16
+        ensures { result ≡ length self.now.actions.now }
+    {
+        u16::try_from(self.actions.len()).unwrap()
     }
 
     // The action of a number, where the node is a set of the task's facts and the task has such an action.
