@@ -1,9 +1,9 @@
 -- What the parts of planning into a buffer of bytes answer; only inner functions cite these. Assumes nothing.
-use Rattle.std.specs.Prelude.{◌≡◌, ℕ, ◌<◌, ◌≤◌, List, length, take, ℤ, Ok, Err, Result, slice_index}
+use Rattle.std.specs.Prelude.{◌≡◌, ℕ, ◌<◌, ◌≤◌, List, length, take, ℤ, pos, Option, Some, None, Ok, Err, Result, slice_index}
 use Rattle.fault.specs.declared.Fault.{Fault}
 use Rattle.fault.specs.declared.Fault.TheVariants.{TooFewPlaces}
 use Rattle.bfs.specs.Tables.{Past}
-use Rattle.calls.specs.Calls.{refusing}
+use Rattle.calls.specs.Calls.{refusing, none}
 
 -- each number is a byte
 abbrev pub InBytes : List ℕ → Type 0
@@ -14,7 +14,8 @@ abbrev pub Copied : (ks before after : List ℕ) → Result (Unit {0}) Fault →
 Copied ks before after (Ok _) = (length ks ≤ length before) × (take (length ks) after ≡ ks) × Past (length ks) before after
 Copied ks before after (Err f) = (f ≡ TooFewPlaces) × (length before < length ks) × (after ≡ before)
 
--- a result as one number: a refusal as minus its number
-abbrev pub answer_in : Result ℤ Fault → ℤ
-answer_in (Ok r) = r
+-- what planning comes to, as one number
+abbrev pub answer_in : Result (Option ℕ) Fault → ℤ
+answer_in (Ok (Some d)) = pos d
+answer_in (Ok None) = none
 answer_in (Err f) = refusing f

@@ -1,4 +1,5 @@
 // Planning on a text into a buffer of bytes.
+ghost use Rattle.std.specs.Prelude.{◌≤◌, IfOk, IfSome};
 ghost use Rattle.calls.specs.Calls.{Planned};
 ghost use Rattle.calls.specs.Copies.{Copied, InBytes, answer_in};
 
@@ -21,9 +22,10 @@ fn copy_numbers(numbers: &[u16], out: &mut [u8]) -> Result<(), Fault>
     Ok(())
 }
 
-// Plans on a text, and copies a plan into the buffer: the plan's length, or minus 100 where there is no plan.
-fn plan_into(text: &[u8], plan: &mut [u8]) -> Result<i32, Fault>
-    ensures { Planned text.now plan.old plan.new (answer_in result) }
+// Plans on a text, and copies a plan into the buffer: the plan's length, or nothing where there is no plan.
+fn plan_into(text: &[u8], plan: &mut [u8]) -> Result<Option<usize>, Fault>
+    ensures planned { Planned text.now plan.old plan.new (answer_in result) }
+    ensures few { IfOk result (λ n. IfSome n (λ d. d ≤ 2048)) }
 {
     let mut nodes = [0u64; ROWS];
     let mut links = [Link::ORIGIN; ROWS];
@@ -31,9 +33,9 @@ fn plan_into(text: &[u8], plan: &mut [u8]) -> Result<i32, Fault>
     match plan_text(text, &mut nodes, &mut links, &mut moves)? {
         Outcome::Plan((length, _)) => {
             copy_numbers(&moves[..length], plan)?;
-            Ok(i32::try_from(length).unwrap())
+            Ok(Some(length))
         }
-        Outcome::NoPlan(_) => Ok(NONE),
+        Outcome::NoPlan(_) => Ok(None),
     }
 }
 
@@ -44,7 +46,8 @@ pub extern "C" fn luzafoma_plan(text: &[u8], plan: &mut [u8]) -> i32
     ensures { Planned text.now plan.old plan.new result }
 {
     match plan_into(text, plan) {
-        Ok(number) => number,
+        Ok(Some(length)) => i32::try_from(length).unwrap(),
+        Ok(None) => NONE,
         Err(fault) => answer_of(fault),
     }
 }
