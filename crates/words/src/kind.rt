@@ -1,6 +1,5 @@
 // The kinds of a sheet's lines, and which words each allows.
 ghost use Rattle.std.specs.Prelude.{◌≡◌};
-ghost use Rattle.std.specs.Str.{bytes_eq};
 ghost use Rattle.words.specs.Words.{allowed, allowed_first, allowed_later, kind_of};
 
 use crate::mark::Mark;
@@ -17,13 +16,6 @@ pub enum Kind {
     Wish,
     // an action and its marks
     Action,
-}
-
-// Whether the word is this text.
-fn is_text(word: &[u8], text: &[u8]) -> bool
-    ensures { result ≡ bytes_eq word.now text.now }
-{
-    word == text
 }
 
 impl Kind {
@@ -44,9 +36,9 @@ impl Kind {
         ensures { result ≡ allowed_first self word.now }
     {
         match self {
-            Kind::Facts => is_text(word, b"line"),
-            Kind::Now => is_text(word, b"now"),
-            Kind::Wish => is_text(word, b"wish"),
+            Kind::Facts => matches!(word, b"line"),
+            Kind::Now => matches!(word, b"now"),
+            Kind::Wish => matches!(word, b"wish"),
             Kind::Action => is_name(word),
         }
     }
@@ -57,8 +49,8 @@ impl Kind {
     {
         match self {
             Kind::Facts => is_name(word),
-            Kind::Now => is_text(word, b"0") || is_text(word, b"1"),
-            Kind::Wish => is_text(word, b"1") || is_text(word, b"-"),
+            Kind::Now => matches!(word, b"0" | b"1"),
+            Kind::Wish => matches!(word, b"1" | b"-"),
             Kind::Action => Mark::try_from(word).is_ok(),
         }
     }
