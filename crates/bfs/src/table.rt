@@ -51,6 +51,7 @@ impl<'a, N: Copy> NodeTable<'a, N> {
     ghost use Rattle.std.specs.Prelude.{true, false, Some, None, Ok};
     ghost use Rattle.fault.specs.declared.Fault.{Fault};
     ghost use Rattle.bfs.specs.Progress.{ExploredSo, Grown, Pushed, Readable, Turned, Written, trail};
+    ghost use Rattle.space.specs.Meaning.{Lawful};
     ghost use Rattle.space.specs.Rows.{node_at, Held};
 
     // A table over the lent slices with no row used.
@@ -135,7 +136,8 @@ impl<'a, N: Copy> NodeTable<'a, N> {
 
     // Makes every move from a row.
     fn expand<S: Space<Node = N>>(&mut self, space: &S, row: usize) -> Result<(), Fault>
-        requires { row < self.old.used }
+        requires lawful { Lawful (S.Space.meaning space.now) }
+        requires within { row < self.old.used }
         ensures grown { Grown (S.Space.meaning space.now) self.old self.new }
         ensures turned { (last : ℕ) → row < last → Turned (S.Space.meaning space.now) self.old self.new last row 0 (row + 1) 0 result }
     {
@@ -152,7 +154,8 @@ impl<'a, N: Copy> NodeTable<'a, N> {
         first: usize,
         last: usize,
     ) -> Result<(), Fault>
-        requires { (first ≤ last) × (last ≤ self.old.used) }
+        requires lawful { Lawful (S.Space.meaning space.now) }
+        requires within { (first ≤ last) × (last ≤ self.old.used) }
         ensures grown { Grown (S.Space.meaning space.now) self.old self.new }
         ensures turned { Turned (S.Space.meaning space.now) self.old self.new last first 0 last 0 result }
     {

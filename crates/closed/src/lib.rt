@@ -5,7 +5,7 @@ ghost use Rattle.std.specs.Prelude.{◌≡◌, ℕ, ◌<◌, true, false, length
 ghost use Rattle.closed.specs.Check.{Checked, FirstMove, Free, Keeps, Misses, MissingAt, NoNodeAt, Nodes, TargetAt};
 ghost use Rattle.fault.specs.declared.Fault.{Fault};
 ghost use Rattle.closed.specs.Judgement.{ChecksSound};
-ghost use Rattle.space.specs.Meaning.{Meaning};
+ghost use Rattle.space.specs.Meaning.{Lawful, Meaning};
 ghost use Rattle.space.specs.Rows.{node_at};
 
 use fault::Fault;
@@ -38,6 +38,7 @@ fn keeps<S: Space>(space: &S, rows: &[S::Node], from: S::Node, by: u16) -> bool
 
 // The first move from a node whose next node is missing.
 fn missing_move<S: Space>(space: &S, rows: &[S::Node], from: S::Node) -> Option<u16>
+    requires { Lawful (S.Space.meaning space.now) }
     ensures { FirstMove (S.Space.meaning space.now) rows.now from result }
 {
     (0..space.count()).find(|by| !keeps(space, rows, from, *by))
@@ -75,6 +76,7 @@ fn check_targets<S: Space>(space: &S, rows: &[S::Node]) -> Result<(), Fault>
 
 // Refuses the first row from which a next node is missing.
 fn check_moves<S: Space>(space: &S, rows: &[S::Node]) -> Result<(), Fault>
+    requires { Lawful (S.Space.meaning space.now) }
     ensures passed { result ≡ Ok tt → (i j : ℕ) → i < length rows.now → Keeps (S.Space.meaning space.now) rows.now (node_at (S.Space.meaning space.now) rows.now i) j }
     ensures broke { (f : Fault) → result ≡ Err f → MissingAt (S.Space.meaning space.now) rows.now f }
 {

@@ -4,7 +4,7 @@ use Rattle.std.proofs.lemmas.Bool.Decides.{nat_tests}
 use Rattle.hoppers.specs.declared.levels.Levels.{Levels}
 use Rattle.hoppers.specs.Levels.{level, put}
 use Rattle.hoppers.specs.Moves.{poured, transferred, pourable, Others, Effects}
-use Rattle.hoppers.specs.Laws.{put_same, put_other, allowed_gives}
+use Rattle.hoppers.proofs.Laws.{put_same, put_other, allowed_gives}
 
 module _ (caps x : Levels) where
   abbrev Pours : ℕ → ℕ → Levels → Type 0

@@ -1,3 +1,4 @@
 pub mod Zips
 mod Numbering
+mod Laws
 mod Effects

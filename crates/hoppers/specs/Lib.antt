@@ -1,4 +1,3 @@
 pub mod Levels
 pub mod Moves
 pub mod Setting
-pub mod Laws

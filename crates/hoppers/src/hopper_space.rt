@@ -1,6 +1,5 @@
 // Hoppers as a search space, and how they are set up.
 ghost use Rattle.std.specs.Prelude.{◌≡◌, true, false, length};
-ghost use Rattle.hoppers.specs.Laws.{lawful};
 ghost use Rattle.hoppers.specs.Moves.{move_of};
 ghost use Rattle.hoppers.specs.Setting.{SetUp, GoodLevels, hoppers};
 
@@ -28,7 +27,7 @@ fn in_range(capacities: &[u8], levels: &[u8]) -> bool
 
 impl Hoppers {
     // Hoppers of these capacities, at these levels, with a level wanted in one of them.
-    #[tactic(auto, using(crate::specs::Laws::set_fine))]
+    #[tactic(auto, using(crate::proofs::Laws::set_fine))]
     pub fn new(
         capacities: &[u8],
         levels: &[u8],
@@ -68,12 +67,11 @@ impl Space for Hoppers {
 
     ghost meaning = { hoppers };
 
-    ghost lawful = { lawful };
-
     fn is_node(&self, node: Levels) -> bool {
         node.within(self.capacities)
     }
 
+    #[tactic(auto, using(crate::proofs::Laws::lawful))]
     fn start(&self) -> Levels {
         self.start
     }

@@ -1,5 +1,7 @@
-// Runs of the search and of the closed-set check, over hoppers of 3 and 5.
+// Runs of the search and of the closed-set check, over hoppers of 3 and 5 and over a dial.
 #![tactic(auto)]
+
+ghost use Rattle.std.specs.Prelude.{ℕ, ◌+◌, true, Some, None, if◌then◌else◌, nat_eq, nat_le};
 
 #[cfg(test)]
 mod tests {
@@ -7,6 +9,7 @@ mod tests {
     use closed::check_closed;
     use fault::Fault;
     use hoppers::{Hoppers, Levels};
+    use space::Space;
     use std::alloc::Global;
     use std::test::Fail;
 
@@ -46,6 +49,47 @@ mod tests {
 
         fn place(&self, i: usize) -> Option<u16> {
             self.plan.get(i).copied()
+        }
+    }
+
+    // A dial of marks from 0 to its last, which stands at its last and turns to any. That its moves are few rests on the last mark
+    // being a u8.
+    #[derive(Clone, Copy)]
+    struct Dial {
+        last: u8,
+        wanted: u8,
+    }
+
+    impl Space for Dial {
+        type Node = u8;
+
+        ghost meaning = { λ s. record { node = λ _. true; start = s.last; count = s.last + 1; target = λ w. nat_eq w s.wanted; next = λ _ k. if nat_le k s.last then Some k else None } };
+
+        fn is_node(&self, _mark: u8) -> bool {
+            true
+        }
+
+        fn start(&self) -> u8 {
+            self.last
+        }
+
+        fn count(&self) -> u16 {
+            u16::from(self.last) + 1
+        }
+
+        fn is_target(&self, mark: u8) -> bool {
+            mark == self.wanted
+        }
+
+        fn next(&self, _mark: u8, by: u16) -> Option<u8> {
+            if by > u16::from(self.last) {
+                return None;
+            }
+            Some(by as u8)
+        }
+
+        fn same(&self, a: u8, b: u8) -> bool {
+            a == b
         }
     }
 
@@ -128,6 +172,38 @@ mod tests {
                 &[start, Levels::padded(&[3, 0]), Levels::padded(&[0, 5])],
             ),
             Err(Fault::NextMissing(1, 1))
+        );
+        Ok(())
+    }
+
+    #[test]
+    fn a_dial_turns_to_each_of_its_marks(rt: HostRuntime) -> Result<(), Fail> {
+        let dial = Dial { last: 3, wanted: 2 };
+        let mut nodes = [9; 5];
+        let mut links = [Link::ORIGIN; 5];
+        let mut plan = [UNTOUCHED; 2];
+        assert_eq!(rt;
+            find_plan(&dial, &mut nodes, &mut links, &mut plan),
+            Ok(Outcome::Plan((1, 4)))
+        );
+        assert_eq!(rt; plan, [2, UNTOUCHED]);
+        assert_eq!(rt; nodes, [3, 0, 1, 2, 9]);
+        Ok(())
+    }
+
+    #[test]
+    fn a_dial_without_the_wanted_mark_is_closed(rt: HostRuntime) -> Result<(), Fail> {
+        let dial = Dial { last: 2, wanted: 3 };
+        let mut nodes = [9; 5];
+        let mut links = [Link::ORIGIN; 5];
+        assert_eq!(rt;
+            find_plan(&dial, &mut nodes, &mut links, &mut []),
+            Ok(Outcome::NoPlan(3))
+        );
+        assert_eq!(rt; check_closed(&dial, &nodes[0..3]), Ok(()));
+        assert_eq!(rt;
+            check_closed(&dial, &nodes[0..2]),
+            Err(Fault::NextMissing(0, 1))
         );
         Ok(())
     }

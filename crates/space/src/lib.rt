@@ -18,9 +18,10 @@ pub trait Space {
     fn is_node(&self, node: Self::Node) -> bool
         ensures { result ≡ (meaning self.now).node node };
 
-    // The start.
+    // The start. Whoever answers it also shows that the meaning keeps the laws of a space.
     fn start(&self) -> Self::Node
-        ensures { result ≡ (meaning self.now).start };
+        ensures value { result ≡ (meaning self.now).start }
+        ensures lawful { Lawful (meaning self.now) };
 
     // The count of moves.
     fn count(&self) -> u16
@@ -37,9 +38,6 @@ pub trait Space {
     // Are these two equal?
     fn same(&self, a: Self::Node, b: Self::Node) -> bool
         ensures { (result ≡ true → a ≡ b) × (a ≡ b → result ≡ true) };
-
-    // the meaning keeps the laws of a space
-    ghost lawful: { (s : Self) → Lawful (meaning s) };
 }
 
 // Whether one of the rows holds the node.

@@ -15,7 +15,7 @@ use Rattle.strips.specs.Duality.{dual, carries, is_plan, space_in, Forwards, Bac
 use Rattle.strips.specs.declared.action.Action.{Action}
 use Rattle.strips.proofs.Words.{within_at, within_of, disjoint_decides, digits, equal, has_past}
 use Rattle.space.proofs.Least.{nearest_exists}
-use Rattle.strips.specs.Laws.{action_fine, forward_to, backward_to, forward_lawful, backward_lawful, mirror_lawful, complement_below, without_lt}
+use Rattle.strips.proofs.Laws.{action_fine, forward_to, backward_to, forward_lawful, backward_lawful, mirror_lawful, complement_below, without_lt}
 use Rattle.strips.proofs.Regression.{both, turn, fwd, sets_run}
 
 pub complement_twice : (n w : ℕ) → w < 2 ^ n → complement n (complement n w) ≡ w

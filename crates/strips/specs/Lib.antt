@@ -3,4 +3,3 @@ pub mod Actions
 pub mod Tasks
 pub mod Duality
 pub mod Views
-pub mod Laws

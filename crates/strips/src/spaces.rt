@@ -1,6 +1,5 @@
 // The spaces in which a plan is searched: forward, backward, and the mirror over any space of sets of facts.
 ghost use Rattle.std.specs.Prelude.{◌≡◌, ℕ, ◌^◌, ◌≤◌, nat_lt};
-ghost use Rattle.strips.specs.Laws.{backward_lawful, forward_lawful, mirror_lawful};
 ghost use Rattle.strips.specs.Tasks.{backward, forward, mirror};
 ghost use Rattle.strips.specs.Views.{task_of};
 
@@ -31,8 +30,6 @@ impl Space for Forward<'_> {
 
     ghost meaning = { λ s. forward (task_of s.task) };
 
-    ghost lawful = { λ s. forward_lawful (task_of s.task) s.task.ok };
-
     fn is_node(&self, node: u64) -> bool {
         self.task.facts.covers(node)
     }
@@ -62,8 +59,6 @@ impl Space for Backward<'_> {
     type Node = u64;
 
     ghost meaning = { λ s. backward (task_of s.task) };
-
-    ghost lawful = { λ s. backward_lawful (task_of s.task) s.task.ok };
 
     fn is_node(&self, node: u64) -> bool {
         self.task.facts.covers(node)
@@ -133,8 +128,6 @@ impl<S: FactSpace> Space for Mirror<S> {
     type Node = u64;
 
     ghost meaning = { λ s. mirror (S.FactSpace.facts s.inner) (S.Space.meaning s.inner) };
-
-    ghost lawful = { λ s. mirror_lawful (S.FactSpace.facts s.inner) (S.Space.meaning s.inner) (S.Space.lawful s.inner) };
 
     fn is_node(&self, node: u64) -> bool {
         self.facts().covers(node)

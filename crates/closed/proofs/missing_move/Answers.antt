@@ -8,5 +8,5 @@ pub returns : goal.returns
 returns g c =
     let m = g.S.Space.meaning c.args.space.now in
     let rows = c.args.rows.now in
-    first_move m rows (g.met.S.Space.lawful c.args.space.now) _ _ c.count.ensures _
+    first_move m rows c.requires _ _ c.count.ensures _
     (first_from_Range _ _ _ c.find.result (Misses m rows c.args.from) (Keeps m rows c.args.from) c.find.ensures.ran (λ x q k. search rules) (λ x q k. search rules))

@@ -22,5 +22,5 @@ pub returns : goal.returns
 returns g c =
     let v = c.loop-by.invariant in record {
       grown = v.grown;
-      turned = λ last l. turned_whole_row (g.met.S.Space.lawful c.args.space.now) (omega (arith, c.count-by-end.ensures)) l (v.turned last l);
+      turned = λ last l. turned_whole_row c.requires.lawful (omega (arith, c.count-by-end.ensures)) l (v.turned last l);
     }

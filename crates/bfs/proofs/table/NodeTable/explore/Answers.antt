@@ -42,7 +42,7 @@ loop-first-preserved g c = record {
 pub returns-clause-ended : goal.returns-clause-ended
 returns-clause-ended g c =
     let st = c.loop-first.invariant.at.stage in
-    let law = g.met.S.Space.lawful c.args.space.now in
+    let law = c.start.ensures.lawful in
     let q = c.loop-first-test.false in (
       filled c.loop-first.invariant.grown st.table (end_all law st q),
       closed_hopeless _ _ _ (end_closed law st q),
