@@ -55,12 +55,12 @@ impl Draft {
         let (taken, expected) = match words.next() {
             None => return Ok(()),
             Some("capacities") => (
-                set_once(&mut self.capacities, numbers(heap, words)?),
+                set_once(&mut self.capacities, || numbers(heap, words))?,
                 CAPACITIES,
             ),
-            Some("levels") => (set_once(&mut self.levels, numbers(heap, words)?), LEVELS),
-            Some("want") => (set_once(&mut self.want, want(words)), WANT),
-            Some("rows") => (set_once(&mut self.rows, rows(words)), ROWS),
+            Some("levels") => (set_once(&mut self.levels, || numbers(heap, words))?, LEVELS),
+            Some("want") => (set_once(&mut self.want, || Ok(want(words)))?, WANT),
+            Some("rows") => (set_once(&mut self.rows, || Ok(rows(words)))?, ROWS),
             Some(_) => (None, ANY),
         };
         taken.ok_or(BadInput::Line(number, expected))
@@ -81,13 +81,18 @@ impl Draft {
     }
 }
 
-// Sets what a line gives, where the line gives it rightly and no line gave it before.
-fn set_once<T: Drop>(place: &mut Option<T>, given: Option<T>) -> Option<()> {
+// Sets what a line gives, where no line gave it before and the line gives it rightly. A line that comes again is not read.
+fn set_once<T: Drop, F: FnOnce() -> Result<Option<T>, AllocError>>(
+    place: &mut Option<T>,
+    read: F,
+) -> Result<Option<()>, AllocError>
+    requires { F.IsAlwaysCallable read }
+{
     if place.is_some() {
-        return None;
+        return Ok(None);
     }
-    *place = Some(given?);
-    Some(())
+    *place = read()?;
+    Ok(place.is_some().then_some(()))
 }
 
 // The numbers of a line, where each word is one.
@@ -104,15 +109,18 @@ fn numbers(heap: Global, words: SplitWhitespace<'_>) -> Result<Option<Vec<u8>>, 
 
 // The level wanted and the number of its hopper, where the words are just these.
 fn want(mut words: SplitWhitespace<'_>) -> Option<(u8, usize)> {
-    let level = words.next()?.parse().ok()?;
-    let hopper = words.next()?.parse().ok()?;
-    words.next().is_none().then_some((level, hopper))
+    let (Some(level), Some(hopper), None) = (words.next(), words.next(), words.next()) else {
+        return None;
+    };
+    Some((level.parse().ok()?, hopper.parse().ok()?))
 }
 
 // The count of rows, where it is the one word and no larger than a search allows.
 fn rows(mut words: SplitWhitespace<'_>) -> Option<usize> {
-    let rows = words.next()?.parse().ok()?;
-    (rows <= MAX_ROWS && words.next().is_none()).then_some(rows)
+    let (Some(rows), None) = (words.next(), words.next()) else {
+        return None;
+    };
+    rows.parse().ok().filter(|rows| *rows <= MAX_ROWS)
 }
 
 // The problem that a text holds, or what was expected of its first wrong line.
