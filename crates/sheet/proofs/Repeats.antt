@@ -16,7 +16,6 @@ use Rattle.sheet.specs.Grid.{words_in, line_at, fact_name, fact_count, action_co
 use Rattle.sheet.specs.Reading.{Apart, Repeated, AgainIn, fact_again, action_again}
 use Rattle.sheet.specs.Repeats.{name_of_piece, FirstRepeat, ToldApart}
 use Rattle.pieces.proofs.Walk.{Here}
-use Rattle.sheet.proofs.Turns.{passed, passed_few, turn_at}
 
 -- the first word of a piece
 abbrev pub first_word : List ℕ → List ℕ
@@ -30,20 +29,14 @@ nowhere = record { ref_ptr = (0, 0); now = [] }
 abbrev pub Held : (sep : ℕ) → (text : List ℕ) → (past : ℕ) → List (Bor (List ℕ)) → ℕ → Type 0
 Held sep text past names n = map (λ w. w.now) names ≡ map first_word (take n (drop past (pieces sep text)))
 
--- one turn of the loop: names are held of n pieces, and x is the next
-module _ (sep : ℕ) (text : List ℕ) (past count : ℕ) (names : List (Bor (List ℕ))) (n : ℕ) (held : Held sep text past names n) (x : ℕ × List ℕ)
-    (turn : (n < length (passed (pieces sep text) past count)) × (x ≡ get_or (passed (pieces sep text) past count) n x)) where
+-- one turn of the loop: names are held of n pieces, and the next piece stands at a place
+module _ (sep : ℕ) (text : List ℕ) (past count : ℕ) (names : List (Bor (List ℕ))) (n : ℕ) (held : Held sep text past names n) (at : ℕ) (p : List ℕ)
+    (stands : Here (pieces sep text) (n + past) at p) (now : n < count) where
   later : List (List ℕ)
   later = drop past (pieces sep text)
 
   name : ℕ → List ℕ
   name = name_of_piece sep text past
-
-  stands : Here (pieces sep text) (n + past) x.0 x.1
-  stands = turn_at (pieces sep text) past count n x turn
-
-  now : n < count
-  now = omega (arith, turn.0, passed_few (pieces sep text) past count)
 
   enough : n < length later
   unfolding later
@@ -64,18 +57,14 @@ module _ (sep : ℕ) (text : List ℕ) (past count : ℕ) (names : List (Bor (Li
       sym (get_or-map (λ w. w.now) names k nowhere [] (omega (arith, long))) ∙ ap (λ (ws : List (List ℕ)). get_or ws k []) held
       ∙ get_or-map first_word (take n later) k [] [] (omega (arith, length-take-le n later (omega (arith, enough)))) ∙ ap first_word (get_or-take n later k [] h) ∙ named k
 
-  -- there is room for it
-  pub room : count ≤ 256 → length names < 256
-  room few = omega (arith, long, now, few)
-
-  module _ (w : Bor (List ℕ)) (is : w.now ≡ first_word x.1) where
+  module _ (w : Bor (List ℕ)) (is : w.now ≡ first_word p) where
     here : w.now ≡ name n
     unfolding name
     here = is ∙ ap first_word stands.is
 
     -- one of them is its name
     pub found : Apart (name_of_piece sep text past) n → (k : ℕ) × (k < length names) × ((d : Bor (List ℕ)) → pointwise eqb (get_or names k d).now w.now ≡ true)
-        → FirstRepeat sep text past count (Err (RepeatedName x.0))
+        → FirstRepeat sep text past count (Err (RepeatedName at))
     unfolding name
     found apart (k, l, e) =
         let before : k < n = omega (arith, long) in (

@@ -49,6 +49,10 @@ module _ (ps : List (List ℕ)) (s n : ℕ) where
       let is = e ∙ get_or-enumerate_from 0 passed k x few in
       (ap (λ y. y.0) is ∙ omega arith, turn_at k x.1 (few, ap (λ y. y.1) is))
 
+  -- and it is one of the n
+  pub counted_few : length counted ≤ n
+  counted_few = omega (arith, length-enumerate_from 0 passed, passed_few)
+
   -- where the pieces past the first s are no more than n, the walk goes over all of them
   pub all_counted : length ps ≤ n + s → length ps ≤ length counted + s
   all_counted h = omega (arith, length-enumerate_from 0 passed, length-take n (drop s (placed 0 ps)), length-drop s (placed 0 ps), length-placed 0 ps)

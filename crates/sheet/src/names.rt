@@ -4,25 +4,30 @@ ghost use Rattle.pieces.specs.Pieces.{pieces};
 ghost use Rattle.sheet.specs.Repeats.{FirstRepeat, ToldApart};
 
 use crate::grid::{Grid, HEAD_LINES};
-use arrayvec::ArrayVec;
 use fault::Fault;
 use pieces::{Pieces, piece_at};
 use strips::MAX_ACTIONS;
 
 // Refuses the first of so many pieces of a text, past the first ones, whose name an earlier one has. The name of a piece is its first
-// word.
-fn check_apart(text: &[u8], sep: u8, past: usize, count: usize) -> Result<(), Fault>
-    requires few { count ≤ 256 }
+// word; the names that were met are kept at the front of a lent table.
+fn check_apart<'a>(
+    names: &mut [&'a [u8]],
+    text: &'a [u8],
+    sep: u8,
+    past: usize,
+    count: usize,
+) -> Result<(), Fault>
+    requires few { count ≤ length names.old }
     requires inside { count + past ≤ length (pieces sep text.now) }
     ensures { FirstRepeat sep text.now past count result }
 {
-    let mut names = ArrayVec::<&[u8], MAX_ACTIONS>::new();
-    for piece in Pieces::of(text, sep).skip(past).take(count) {
+    let named = Pieces::of(text, sep).skip(past).take(count);
+    for (i, piece) in named.enumerate() {
         let name = piece_at(piece.bytes, b' ', 0);
-        if names.contains(&name) {
+        if names[..i].contains(&name) {
             return Err(Fault::RepeatedName(piece.start));
         }
-        names.push(name);
+        names[i] = name;
     }
     Ok(())
 }
@@ -32,7 +37,9 @@ impl Grid<'_> {
     pub fn check_names(&self) -> Result<(), Fault>
         ensures { ToldApart self.now.text.now result }
     {
-        check_apart(piece_at(self.text, b'\n', 0), b' ', 1, self.facts)?;
-        check_apart(self.text, b'\n', HEAD_LINES, self.actions)
+        let mut names: [&[u8]; MAX_ACTIONS] = [b""; MAX_ACTIONS];
+        let first = piece_at(self.text, b'\n', 0);
+        check_apart(&mut names, first, b' ', 1, self.facts)?;
+        check_apart(&mut names, self.text, b'\n', HEAD_LINES, self.actions)
     }
 }
