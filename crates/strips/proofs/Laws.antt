@@ -16,7 +16,7 @@ some_then : (c : Bool) (x b : ℕ) → then_some c x ≡ Some b → (c ≡ true)
 some_then true x b e = (cc, cc)
 some_then false x b e = cc
 
-sets_lawful : (n start count : ℕ) (target : ℕ → Bool) (may : ℕ → ℕ → Bool) (to : ℕ → ℕ → ℕ)
+pub sets_lawful : (n start count : ℕ) (target : ℕ → Bool) (may : ℕ → ℕ → Bool) (to : ℕ → ℕ → ℕ)
     → start < 2 ^ n → count ≤ 512 → ((w k : ℕ) → w < 2 ^ n → k < count → to w k < 2 ^ n)
     → Lawful (of_sets n start count target may to)
 sets_lawful n start count target may to hs hc ht = record {

@@ -26,7 +26,7 @@ has_and a b i = ap (λ (x : ℕ). eqb x 1) (bit_at_and a b i) ∙ min_one _ _ (b
 pub has_or : (a b i : ℕ) → has (bit_or a b) i ≡ (has a i || has b i)
 has_or a b i = ap (λ (x : ℕ). eqb x 1) (bit_at_or a b i) ∙ max_one _ _ (bit_at-lt a i) (bit_at-lt b i)
 
-has_xor : (a b i : ℕ) → has (bit_xor a b) i ≡ ((has a i && not (has b i)) || (not (has a i) && has b i))
+pub has_xor : (a b i : ℕ) → has (bit_xor a b) i ≡ ((has a i && not (has b i)) || (not (has a i) && has b i))
 has_xor a b i = ap (λ (x : ℕ). eqb x 1) (bit_at_xor a b i) ∙ odd_one _ _ (bit_at-lt a i) (bit_at-lt b i)
 
 -- a number has no digit from its length on
