@@ -1,7 +1,7 @@
 // Runs of the search and of the closed-set check, over hoppers of 3 and 5 and over a dial.
 #![tactic(auto)]
 
-ghost use Rattle.std.specs.Prelude.{ℕ, ◌+◌, true, Some, None, if◌then◌else◌, nat_eq, nat_le};
+ghost use Rattle.std.specs.Prelude.{◌+◌, true, Some, None, if◌then◌else◌, nat_eq, nat_le};
 
 #[cfg(test)]
 mod tests {
